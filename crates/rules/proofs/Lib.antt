@@ -1,1 +1,17 @@
 pub mod Worked
+pub mod Wholes
+pub mod Kept
+pub mod Stood
+pub mod Trees
+pub mod Once
+pub mod Weight
+pub mod Tested
+pub mod Roll
+pub mod Events
+pub mod Machine
+pub mod Nested
+pub mod ReadBack
+pub mod Flat
+pub mod Fits
+pub mod Lawful
+pub mod Corners
