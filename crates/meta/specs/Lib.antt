@@ -1,2 +1,9 @@
 pub mod Rejections
 pub mod Items
+pub mod Kinds
+pub mod Examined
+pub mod Admitted
+pub mod Shape
+pub mod View
+pub mod Decoded
+pub mod Reads

@@ -1,7 +1,7 @@
 -- The tree of a node is built over the trees of its children, and later nodes leave it as it was.
 use Prim.Native.Nat.{ℕ, zero, suc, _+_, _<_, _≤_}
 use mathlib.Core.Path.{_≡_, refl, sym, _∙_, ap, subst}
-use mathlib.Core.Bool.{Bool, true, false, _&&_}
+use mathlib.Core.Bool.{true}
 use mathlib.Core.List.{List, [], _∷_, _++_, map}
 use native.Mathlib.Omega.{arith}
 use native.Mathlib.Nat.{add-zero, zero-add}
@@ -11,8 +11,7 @@ use lib.Seq.{getD-append-seam}
 use borrow.Author.Tests.{ltb-true}
 use Rattle.std.proofs.shelf.Lists.{getD-past}
 use Rattle.std.proofs.shelf.Tests.{and-parts}
-use Rattle.std.specs.declared.option.Option.{Option}
-use Rattle.std.specs.declared.option.Option.the-variants.{Some, None}
+use Rattle.std.specs.declared.option.Option.the-variants.{Some}
 use Rattle.rules.specs.Lists.{at, all}
 use Rattle.rules.specs.Notes.{Note}
 use Rattle.rules.specs.Records.{kindOf}
@@ -84,10 +83,6 @@ pub trees-push : (notes : List Note) (before : List Meta) (ns : List Node) (n : 
     → trees notes before (ns ++ n ∷ []) ≡ trees notes before ns ++ treeOf notes (trees notes before ns) n ∷ []
 trees-push notes before [] n = refl
 trees-push notes before (m ∷ ns) n = trees-push notes (before ++ treeOf notes before m ∷ []) ns n
-
-same-map : {X Y : Type 0} (f g : X → Y) (xs : List X) → ((x : X) → f x ≡ g x) → map f xs ≡ map g xs
-same-map f g [] h = refl
-same-map f g (x ∷ xs) h = let e = h x in let es = same-map f g xs h in cc
 
 -- the tree of a node is built over the trees of its children, which are below it
 pub tree-at : (p : Plain) (k : ℕ) (n : Node) → at (p .nodes) k ≡ Some n → all (λ c. ltb c k) (n .children) ≡ true

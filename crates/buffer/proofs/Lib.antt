@@ -1,0 +1,11 @@
+pub mod Steps
+pub mod Nesting
+pub mod Whole
+pub mod Lawful
+pub mod Cuts
+pub mod Numbered
+pub mod Cutting
+pub mod Opened
+pub mod Growth
+pub mod Writing
+pub mod Held
