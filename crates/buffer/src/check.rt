@@ -19,9 +19,10 @@ use crate::token::Token;
 use std::alloc::AllocError;
 use std::alloc::Global;
 
-// The most marks and text bytes that a store has.
+// The most marks that a store has.
 const MOST_MARKS: usize = 2048;
 
+// The most bytes that the text of a store has.
 const MOST_BYTES: usize = 16384;
 
 fn is_text_byte(byte: u8) -> bool

@@ -1,14 +1,14 @@
 // The marks of a store's bytes, and how they are read.
 ghost use Prim.Native.Nat.{_+_, _*_};
 ghost use mathlib.Core.Path.{_≡_};
+ghost use mathlib.Core.Bool.{cond, _&&_};
+ghost use lib.Dec.{eqb};
+ghost use Rattle.std.specs.declared.option.Option.the-variants.{Some, None};
 ghost use Rattle.std.specs.Options.{mapped};
 ghost use Rattle.std.specs.Vec.{made};
 ghost use Rattle.rules.specs.Lists.{at};
 ghost use Rattle.rules.specs.Style.{styles};
 ghost use Rattle.rules.specs.Block.{blocks};
-ghost use mathlib.Core.Bool.{cond, _&&_};
-ghost use lib.Dec.{eqb};
-ghost use Rattle.std.specs.declared.option.Option.the-variants.{Some, None};
 ghost use Rattle.rules.specs.Notes.{Start, End, stop, textMark, blockMark, markOf, marksOf};
 ghost use Rattle.buffer.specs.Tokens.{styleOf, blockOf};
 ghost use Rattle.buffer.specs.Marks.{markView, marksIn, sizeOf};
@@ -34,11 +34,8 @@ impl Mark {
         ensures { λ r. ⌜ r ≡ sizeOf (markView self) ⌝ }
     {
         match self {
-            Mark::Token(token) => match token {
-                Token::Text { bytes, .. } => bytes as usize,
-                _ => 0,
-            },
-            Mark::Stop => 0,
+            Mark::Token(Token::Text { bytes, .. }) => bytes as usize,
+            _ => 0,
         }
     }
 }

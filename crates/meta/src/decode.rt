@@ -34,7 +34,7 @@ fn number(record: &[u8], field: Field) -> u16
 }
 
 // A word of a record, without the zeros behind it.
-pub fn word<'a>(record: &'a [u8], part: Part) -> &'a [u8]
+pub(crate) fn word<'a>(record: &'a [u8], part: Part) -> &'a [u8]
     requires { ⌜ length (now «record») ≡ 128 ⌝ }
     ensures { λ r. ⌜ now r ≡ wordIn (fieldOf part) (now («record» .entry)) ⌝ }
 {
@@ -191,7 +191,7 @@ fn of_kind<'a>(kind: Kind, record: &[u8], n: u16, kids: &'a [u16]) -> Meta<'a>
 }
 
 // The children are below `n` where all of `kids` are.
-pub fn decode<'a>(record: &[u8], n: u16, kids: &'a [u16]) -> Meta<'a>
+pub(crate) fn decode<'a>(record: &[u8], n: u16, kids: &'a [u16]) -> Meta<'a>
     requires { ⌜ readable (now «record») (now kids) ≡ true ⌝ }
     ensures value { λ r. ⌜ Decodes n (now («record» .entry)) (now (kids .entry)) (kindOf (now («record» .entry))) r ⌝ }
     ensures bound { λ r. ⌜ (AllBelow n (now (kids .entry)) → Below n r) ⌝ }

@@ -124,7 +124,7 @@ fn child_count(kind: Kind, record: &[u8]) -> usize
 }
 
 // The fault of the first rule that a record breaks over so many notes, or how many unplaced nodes it takes.
-pub fn examine(record: &[u8], notes: usize) -> Result<usize, Fault>
+pub(crate) fn examine(record: &[u8], notes: usize) -> Result<usize, Fault>
     requires { ⌜ length (now «record») ≡ 128 ⌝ }
     ensures { λ r. ⌜ r ≡ examined (now («record» .entry)) notes ⌝ }
 {

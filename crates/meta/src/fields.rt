@@ -25,7 +25,7 @@ fn number_in(bytes: &[u8]) -> usize
 
 impl Part {
     // The field that a word stands in.
-    pub fn field(self) -> Field
+    pub(crate) fn field(self) -> Field
         ensures { λ r. ⌜ fieldView r ≡ fieldOf self ⌝ }
     {
         match self {

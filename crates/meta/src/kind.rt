@@ -56,7 +56,7 @@ pub enum Field {
 }
 
 impl Kind {
-    pub fn from_number(number: u8) -> Option<Kind>
+    pub(crate) fn from_number(number: u8) -> Option<Kind>
         ensures { λ r. ⌜ mapped kindView r ≡ at kinds number ⌝ }
     {
         match number {
@@ -115,27 +115,27 @@ impl Kind {
         }
     }
 
-    pub fn uses(self, field: Field) -> bool
+    pub(crate) fn uses(self, field: Field) -> bool
         ensures { λ r. ⌜ r ≡ isIn (fieldView field) (uses (kindView self)) ⌝ }
     {
         field.is_in(self.used())
     }
 
-    pub fn needs(self, field: Field) -> bool
+    pub(crate) fn needs(self, field: Field) -> bool
         ensures { λ r. ⌜ r ≡ isIn (fieldView field) (needs (kindView self)) ⌝ }
     {
         field.is_in(self.needed())
     }
 
     // An And or an Or, which counts its children.
-    pub fn is_row(self) -> bool
+    pub(crate) fn is_row(self) -> bool
         ensures { λ r. ⌜ r ≡ (is (kindView self) K.And || is (kindView self) K.Or) ⌝ }
     {
         matches!(self, Kind::And | Kind::Or)
     }
 
     // A Flag or an Argument, which has a short or a name.
-    pub fn is_named(self) -> bool
+    pub(crate) fn is_named(self) -> bool
         ensures { λ r. ⌜ r ≡ (is (kindView self) K.Flag || is (kindView self) K.Argument) ⌝ }
     {
         matches!(self, Kind::Flag | Kind::Argument)

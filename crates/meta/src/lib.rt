@@ -1,9 +1,9 @@
 // Command trees: records, items, and the book that holds them.
 pub mod book;
-pub mod decode;
-pub mod examine;
-pub mod fields;
+mod decode;
+mod examine;
+mod fields;
 pub mod item;
-pub mod kind;
+mod kind;
 pub mod rejection;
-pub mod words;
+mod words;

@@ -18,14 +18,14 @@ fn is_visible(byte: u8) -> bool
 }
 
 // A short, or 0 for none.
-pub fn is_short(byte: u8) -> bool
+pub(crate) fn is_short(byte: u8) -> bool
     ensures { λ r. ⌜ r ≡ isShort byte ⌝ }
 {
     byte == 0 || is_visible(byte) && byte != b'-'
 }
 
 impl Part {
-    pub fn allows(self, byte: u8) -> bool
+    pub(crate) fn allows(self, byte: u8) -> bool
         ensures { λ r. ⌜ r ≡ allowed self byte ⌝ }
     {
         match self {
@@ -47,7 +47,7 @@ impl Part {
     }
 }
 
-pub fn are_zeros(bytes: &[u8]) -> bool
+pub(crate) fn are_zeros(bytes: &[u8]) -> bool
     ensures { λ r. ⌜ r ≡ zeros (now (bytes .entry)) ⌝ }
 {
     for byte in bytes {
@@ -59,7 +59,7 @@ pub fn are_zeros(bytes: &[u8]) -> bool
 }
 
 // How many bytes stand before the first zero.
-pub fn word_len(bytes: &[u8]) -> usize
+pub(crate) fn word_len(bytes: &[u8]) -> usize
     ensures value { λ r. ⌜ r ≡ length (wordOf (now (bytes .entry))) ⌝ }
     ensures bound { λ r. ⌜ r ≤ length (now (bytes .entry)) ⌝ }
 {
@@ -72,7 +72,7 @@ pub fn word_len(bytes: &[u8]) -> usize
 }
 
 // What stands before the first zero.
-pub fn word_of(bytes: &[u8]) -> &[u8]
+pub(crate) fn word_of(bytes: &[u8]) -> &[u8]
     ensures value { λ r. ⌜ now r ≡ wordOf (now (bytes .entry)) ⌝ }
     ensures bound { λ r. ⌜ length (now r) ≤ length (now (bytes .entry)) ⌝ }
 {
@@ -80,7 +80,7 @@ pub fn word_of(bytes: &[u8]) -> &[u8]
 }
 
 // A word of the part's bytes, with zeros behind it.
-pub fn is_word(bytes: &[u8], part: Part) -> bool
+pub(crate) fn is_word(bytes: &[u8], part: Part) -> bool
     ensures { λ r. ⌜ r ≡ isWord (allowed part) (now (bytes .entry)) ⌝ }
 {
     let word = word_of(bytes);

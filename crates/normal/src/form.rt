@@ -7,7 +7,7 @@ use crate::bench::Form;
 use meta::item::Item;
 
 impl Form {
-    pub fn is_command(self) -> bool
+    pub(crate) fn is_command(self) -> bool
         ensures { λ r. ⌜ r ≡ K.is K.Command (kindOf self) ⌝ }
     {
         match self {
@@ -20,7 +20,7 @@ impl Form {
     }
 
     // Whether a child stays in its row, where a command may have been seen.
-    pub fn stays(self, seen: bool) -> bool
+    pub(crate) fn stays(self, seen: bool) -> bool
         ensures { λ r. ⌜ r ≡ not (K.is K.Skip (kindOf self)) && not (seen && K.is K.Command (kindOf self)) ⌝ }
     {
         match self {
@@ -31,7 +31,7 @@ impl Form {
     }
 
     // Whether a command has been seen, behind a child.
-    pub fn sees(self, seen: bool) -> bool
+    pub(crate) fn sees(self, seen: bool) -> bool
         ensures { λ r. ⌜ r ≡ seen || K.is K.Command (kindOf self) ⌝ }
     {
         seen || self.is_command()

@@ -1,7 +1,8 @@
 // The normal form of a command tree, on a bench.
 pub mod bench;
-pub mod form;
-pub mod name;
-pub mod strict;
-pub mod tail;
-pub mod walk;
+mod form;
+mod name;
+pub mod normalise;
+mod strict;
+mod tail;
+mod walk;

@@ -7,7 +7,7 @@ use meta::item::Item;
 use meta::item::ShortLong;
 
 // For usage the short of a name with both, otherwise the long.
-pub fn one_name(name: ShortLong, for_usage: bool) -> ShortLong
+pub(crate) fn one_name(name: ShortLong, for_usage: bool) -> ShortLong
     ensures { λ r. ⌜ ((p : Plain) → nameIn p r ≡ oneName «for_usage» (nameIn p name)) ⌝ }
 {
     match name {
@@ -22,7 +22,7 @@ pub fn one_name(name: ShortLong, for_usage: bool) -> ShortLong
     }
 }
 
-pub fn one_named(item: Item, for_usage: bool) -> Item
+pub(crate) fn one_named(item: Item, for_usage: bool) -> Item
     ensures { λ r. ⌜ ((p : Plain) → itemOf p r ≡ oneNamed «for_usage» (itemOf p item)) ⌝ }
 {
     match item {

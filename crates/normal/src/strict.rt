@@ -15,7 +15,7 @@ pub enum StrictNorm {
 
 impl StrictNorm {
     // The mark behind a Strict.
-    pub fn push(self) -> StrictNorm
+    pub(crate) fn push(self) -> StrictNorm
         ensures { λ r. ⌜ markOf r ≡ pushed (markOf self) ⌝ }
     {
         match self {
@@ -26,7 +26,7 @@ impl StrictNorm {
     }
 
     // The running mark behind a child that is back with a mark.
-    pub fn next(self, child: StrictNorm) -> StrictNorm
+    pub(crate) fn next(self, child: StrictNorm) -> StrictNorm
         ensures { λ r. ⌜ markOf r ≡ running (markOf self) (markOf child) ⌝ }
     {
         match (self, child) {

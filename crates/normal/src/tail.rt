@@ -17,7 +17,7 @@ use crate::bench::Normal;
 use crate::strict::StrictNorm;
 
 // Closes the tree whose children stand in the bench from `start` on, by its top.
-pub fn put(bench: &mut Vec<Normal>, start: usize, form: Form, count: u16)
+pub(crate) fn put(bench: &mut Vec<Normal>, start: usize, form: Form, count: u16)
     requires { ⌜ Room (vec-len (now bench)) (vec-cap (now bench)) 1 ⌝ }
     ensures value { λ _. ⌜ ((p : Plain) (bs body : List Entry) → entries p (vec-items (now (bench .entry))) ≡ bs ++ body → length bs ≡ start → entries p (vec-items (now (bench .exit))) ≡ bs ++ seal (topOf p form) count body) ⌝ }
     ensures len { λ _. ⌜ vec-len (now (bench .exit)) ≡ vec-len (now (bench .entry)) + 1 ⌝ }
@@ -29,7 +29,7 @@ pub fn put(bench: &mut Vec<Normal>, start: usize, form: Form, count: u16)
 }
 
 // Takes the top off the tree at the bench's end.
-pub fn lift(bench: &mut Vec<Normal>)
+pub(crate) fn lift(bench: &mut Vec<Normal>)
     ensures value { λ _. ⌜ ((p : Plain) (bs body : List Entry) (x : Entry) → entries p (vec-items (now (bench .entry))) ≡ bs ++ (body ++ x ∷ []) → entries p (vec-items (now (bench .exit))) ≡ bs ++ body) ⌝ }
     ensures bound { λ _. ⌜ vec-len (now (bench .exit)) ≤ vec-len (now (bench .entry)) ⌝ }
     ensures same { λ _. ⌜ vec-cap (now (bench .exit)) ≡ vec-cap (now (bench .entry)) ⌝ }
@@ -38,7 +38,7 @@ pub fn lift(bench: &mut Vec<Normal>)
 }
 
 // The form at the top of the tree at the bench's end.
-pub fn top(bench: &Vec<Normal>) -> Form
+pub(crate) fn top(bench: &Vec<Normal>) -> Form
     ensures { λ r. ⌜ ((p : Plain) (bs : List Entry) (t : Meta) → entries p (vec-items (now (bench .entry))) ≡ bs ++ post t → kindOf r ≡ kindOfTree t) ⌝ }
 {
     let len = bench.len();
@@ -49,7 +49,7 @@ pub fn top(bench: &Vec<Normal>) -> Form
 }
 
 // The form right below the top of the tree at the bench's end.
-pub fn second(bench: &Vec<Normal>) -> Form
+pub(crate) fn second(bench: &Vec<Normal>) -> Form
     ensures { λ r. ⌜ ((p : Plain) (bs : List Entry) (t : Meta) (x : Entry) → entries p (vec-items (now (bench .entry))) ≡ bs ++ (post t ++ x ∷ []) → kindOf r ≡ kindOfTree t) ⌝ }
 {
     let len = bench.len();
@@ -60,7 +60,7 @@ pub fn second(bench: &Vec<Normal>) -> Form
 }
 
 // Puts Many over the tree at the bench's end, from `start` on.
-pub fn many(bench: &mut Vec<Normal>, start: usize)
+pub(crate) fn many(bench: &mut Vec<Normal>, start: usize)
     requires { ⌜ Room (vec-len (now bench)) (vec-cap (now bench)) 1 ⌝ }
     ensures value { λ _. ⌜ ((p : Plain) (bs : List Entry) (t : Meta) → entries p (vec-items (now (bench .entry))) ≡ bs ++ post t → length bs ≡ start → entries p (vec-items (now (bench .exit))) ≡ bs ++ post (manyOf t)) ⌝ }
     ensures len { λ _. ⌜ vec-len (now (bench .exit)) ≤ vec-len (now (bench .entry)) + 1 ⌝ }
@@ -73,7 +73,7 @@ pub fn many(bench: &mut Vec<Normal>, start: usize)
 }
 
 // Puts Required over an And or an Or.
-pub fn required(bench: &mut Vec<Normal>, start: usize)
+pub(crate) fn required(bench: &mut Vec<Normal>, start: usize)
     requires { ⌜ Room (vec-len (now bench)) (vec-cap (now bench)) 1 ⌝ }
     ensures value { λ _. ⌜ ((p : Plain) (bs : List Entry) (t : Meta) → entries p (vec-items (now (bench .entry))) ≡ bs ++ post t → length bs ≡ start → entries p (vec-items (now (bench .exit))) ≡ bs ++ post (requiredOf t)) ⌝ }
     ensures len { λ _. ⌜ vec-len (now (bench .exit)) ≤ vec-len (now (bench .entry)) + 1 ⌝ }
@@ -86,7 +86,7 @@ pub fn required(bench: &mut Vec<Normal>, start: usize)
 }
 
 // Puts Optional over the tree, or in place of its Required.
-pub fn optional(bench: &mut Vec<Normal>, start: usize)
+pub(crate) fn optional(bench: &mut Vec<Normal>, start: usize)
     requires { ⌜ Room (vec-len (now bench)) (vec-cap (now bench)) 2 ⌝ }
     ensures value { λ _. ⌜ ((p : Plain) (bs : List Entry) (t : Meta) → entries p (vec-items (now (bench .entry))) ≡ bs ++ post t → length bs ≡ start → entries p (vec-items (now (bench .exit))) ≡ bs ++ post (optionalOf t)) ⌝ }
     ensures len { λ _. ⌜ vec-len (now (bench .exit)) ≤ vec-len (now (bench .entry)) + 2 ⌝ }
@@ -112,7 +112,7 @@ pub fn optional(bench: &mut Vec<Normal>, start: usize)
 }
 
 // For usage, puts a custom usage over the tree; one whose note is blank leaves Skip.
-pub fn custom(bench: &mut Vec<Normal>, start: usize, for_usage: bool, note: u16, blank: bool)
+pub(crate) fn custom(bench: &mut Vec<Normal>, start: usize, for_usage: bool, note: u16, blank: bool)
     requires { ⌜ Room (vec-len (now bench)) (vec-cap (now bench)) 1 ⌝ }
     ensures value { λ _. ⌜ ((p : Plain) (bs : List Entry) (t : Meta) → entries p (vec-items (now (bench .entry))) ≡ bs ++ post t → length bs ≡ start → blank ≡ eqb (length (noteNumbered p note .tokens)) 0 → entries p (vec-items (now (bench .exit))) ≡ bs ++ post (customOf «for_usage» (noteNumbered p note) t)) ⌝ }
     ensures len { λ _. ⌜ vec-len (now (bench .exit)) ≤ vec-len (now (bench .entry)) + 1 ⌝ }
@@ -130,7 +130,7 @@ pub fn custom(bench: &mut Vec<Normal>, start: usize, for_usage: bool, note: u16,
 }
 
 // Puts Strict over a child that is back with Push, where the running mark is Pull.
-pub fn wrap(bench: &mut Vec<Normal>, start: usize, run: StrictNorm, back: StrictNorm)
+pub(crate) fn wrap(bench: &mut Vec<Normal>, start: usize, run: StrictNorm, back: StrictNorm)
     requires { ⌜ Room (vec-len (now bench)) (vec-cap (now bench)) 1 ⌝ }
     ensures value { λ _. ⌜ ((p : Plain) (bs : List Entry) (t : Meta) → entries p (vec-items (now (bench .entry))) ≡ bs ++ post t → length bs ≡ start → entries p (vec-items (now (bench .exit))) ≡ bs ++ post (wrapped (markOf run) (markOf back) t)) ⌝ }
     ensures len { λ _. ⌜ vec-len (now (bench .exit)) ≤ vec-len (now (bench .entry)) + 1 ⌝ }
@@ -150,7 +150,7 @@ pub struct Settled {
 }
 
 // Takes the child of a row that stands at the bench's end, from `start` on, away again if it does not stay.
-pub fn settle(bench: &mut Vec<Normal>, start: usize, seen: bool) -> Settled
+pub(crate) fn settle(bench: &mut Vec<Normal>, start: usize, seen: bool) -> Settled
     ensures value { λ r. ⌜ ((p : Plain) (bs : List Entry) (t : Meta) → entries p (vec-items (now (bench .entry))) ≡ bs ++ post t → length bs ≡ start → Settles bs t seen (entries p (vec-items (now (bench .exit)))) (r .kept) (r .seen)) ⌝ }
     ensures bound { λ _. ⌜ vec-len (now (bench .exit)) ≤ vec-len (now (bench .entry)) ⌝ }
     ensures same { λ _. ⌜ vec-cap (now (bench .exit)) ≡ vec-cap (now (bench .entry)) ⌝ }
@@ -171,7 +171,7 @@ pub fn settle(bench: &mut Vec<Normal>, start: usize, seen: bool) -> Settled
 }
 
 // Closes an And with `kept` children, which stand in the bench from `start` on.
-pub fn close_and(bench: &mut Vec<Normal>, start: usize, kept: u16)
+pub(crate) fn close_and(bench: &mut Vec<Normal>, start: usize, kept: u16)
     requires { ⌜ Room (vec-len (now bench)) (vec-cap (now bench)) 1 ⌝ }
     ensures value { λ _. ⌜ ((p : Plain) (bs : List Entry) (ts : Metas) → entries p (vec-items (now (bench .entry))) ≡ bs ++ posts ts → length bs ≡ start → kept ≡ len ts → entries p (vec-items (now (bench .exit))) ≡ bs ++ post (andOf ts)) ⌝ }
     ensures len { λ _. ⌜ vec-len (now (bench .exit)) ≤ vec-len (now (bench .entry)) + 1 ⌝ }
@@ -185,7 +185,7 @@ pub fn close_and(bench: &mut Vec<Normal>, start: usize, kept: u16)
 }
 
 // Closes an Or likewise.
-pub fn close_or(bench: &mut Vec<Normal>, start: usize, kept: u16)
+pub(crate) fn close_or(bench: &mut Vec<Normal>, start: usize, kept: u16)
     requires { ⌜ Room (vec-len (now bench)) (vec-cap (now bench)) 2 ⌝ }
     ensures value { λ _. ⌜ ((p : Plain) (bs : List Entry) (ts : Metas) → entries p (vec-items (now (bench .entry))) ≡ bs ++ posts ts → length bs ≡ start → kept ≡ len ts → entries p (vec-items (now (bench .exit))) ≡ bs ++ post (orOf ts)) ⌝ }
     ensures len { λ _. ⌜ vec-len (now (bench .exit)) ≤ vec-len (now (bench .entry)) + 2 ⌝ }
@@ -202,7 +202,7 @@ pub fn close_or(bench: &mut Vec<Normal>, start: usize, kept: u16)
 }
 
 // Takes a Required off the tree at the bench's end, unless it holds an Or.
-pub fn bare(bench: &mut Vec<Normal>)
+pub(crate) fn bare(bench: &mut Vec<Normal>)
     ensures value { λ _. ⌜ ((p : Plain) (bs : List Entry) (t : Meta) → entries p (vec-items (now (bench .entry))) ≡ bs ++ post t → entries p (vec-items (now (bench .exit))) ≡ bs ++ post (bareOf t)) ⌝ }
     ensures bound { λ _. ⌜ vec-len (now (bench .exit)) ≤ vec-len (now (bench .entry)) ⌝ }
     ensures same { λ _. ⌜ vec-cap (now (bench .exit)) ≡ vec-cap (now (bench .entry)) ⌝ }

@@ -30,7 +30,7 @@ use crate::tail::wrap;
 use meta::item::Meta;
 
 // Puts the normal form of an And over `children`, which are below `n`, at the bench's end.
-pub fn and_row(
+pub(crate) fn and_row(
     book: &Book,
     n: u16,
     children: &[u16],
@@ -64,7 +64,7 @@ pub fn and_row(
 }
 
 // Puts the normal form of an Or likewise.
-pub fn or_row(
+pub(crate) fn or_row(
     book: &Book,
     n: u16,
     children: &[u16],
@@ -100,7 +100,7 @@ pub fn or_row(
 }
 
 // Puts the normal form of the node `n` at the bench's end, and answers the mark that it comes back with.
-pub fn walk(
+pub(crate) fn walk(
     book: &Book,
     n: u16,
     for_usage: bool,
@@ -156,7 +156,7 @@ pub fn walk(
 }
 
 // Puts the normal form of the tree at `root`, as a root, at the bench's end.
-pub fn normalise_root(book: &Book, root: u16, for_usage: bool, bench: &mut Vec<Normal>)
+pub(crate) fn normalise_root(book: &Book, root: u16, for_usage: bool, bench: &mut Vec<Normal>)
     requires within { ⌜ root < length (plainOf (now book) .nodes) ⌝ }
     requires room { ⌜ Room (vec-len (now bench)) (vec-cap (now bench)) (3 * weight (treeAt (plainOf (now book)) root)) ⌝ }
     ensures value { λ _. ⌜ entries (plainOf (now (book .entry))) (vec-items (now (bench .exit))) ≡ entries (plainOf (now (book .entry))) (vec-items (now (bench .entry))) ++ post (normal «for_usage» (treeAt (plainOf (now (book .entry))) root)) ⌝ }

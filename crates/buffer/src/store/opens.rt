@@ -77,7 +77,7 @@ fn cut_notes(heap: Global, marks: &[Mark]) -> Result<(Vec<Token>, Vec<Place>), A
     Ok((tokens, places))
 }
 
-// From `first` up to `end`.
+// The span from `first` up to `end`.
 fn span(first: usize, end: usize) -> Span
     requires { ⌜ (first ≤ end) × (end < 65536) ⌝ }
     ensures { λ r. ⌜ (r .first ≡ first) × (r .count ≡ end - first) ⌝ }

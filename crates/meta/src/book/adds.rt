@@ -7,6 +7,7 @@ ghost use Rattle.std.specs.Of.Vec.{vec-items, vec-len, vec-cap};
 ghost use Rattle.std.specs.Vec.{made};
 ghost use Rattle.std.specs.declared.result.Result.the-variants.{Ok};
 ghost use Rattle.rules.specs.Plain.{new as blank, addRule, added, grown};
+ghost use Rattle.rules.specs.Sound.{Sound};
 ghost use Rattle.meta.specs.Rejections.{answerOf, byRule};
 ghost use Rattle.meta.specs.Admitted.{admitted, admittedTo};
 ghost use Rattle.meta.specs.View.{plainOf};
@@ -45,6 +46,7 @@ impl Book {
     pub fn add(&mut self, record: &[u8]) -> Result<u16, Rejection>
         ensures value { λ r. ⌜ answerOf r ≡ byRule (addRule (plainOf (now (self .entry))) (now («record» .entry))) (length (plainOf (now (self .entry)) .nodes)) ⌝ }
         ensures after { λ _. ⌜ plainOf (now (self .exit)) ≡ added (plainOf (now (self .entry))) (now («record» .entry)) ⌝ }
+        ensures sound { λ _. ⌜ Sound (plainOf (now (self .exit))) ⌝ }
     {
         let number = self.nodes.len();
         match self.admit(record) {

@@ -30,7 +30,7 @@ impl Bench {
     }
 
     // Puts the normal form of the tree at `root` in place of what stood there.
-    pub fn normalise(&mut self, book: &Book, root: u16, for_usage: bool)
+    pub(crate) fn fill(&mut self, book: &Book, root: u16, for_usage: bool)
         requires within { ⌜ root < length (plainOf (now book) .nodes) ⌝ }
         requires room { ⌜ 3 * weight (treeAt (plainOf (now book)) root) ≤ min (now self .places) most ⌝ }
         ensures value { λ _. ⌜ entries (plainOf (now (book .entry))) (vec-items (now (self .exit) .nodes)) ≡ post (normal «for_usage» (treeAt (plainOf (now (book .entry))) root)) ⌝ }

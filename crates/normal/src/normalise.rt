@@ -1,0 +1,50 @@
+// The normal form of a root.
+ghost use Prim.Native.Nat.{_-_};
+ghost use mathlib.Core.Path.{_≡_};
+ghost use mathlib.Core.List.{[], _∷_};
+ghost use lib.ListN.{length};
+ghost use Rattle.std.specs.Results.{Cases};
+ghost use Rattle.rules.specs.Lists.{first};
+ghost use Rattle.rules.specs.Tree.{treeAt};
+ghost use Rattle.rules.specs.NormalForm.{normal};
+ghost use Rattle.rules.specs.Table.{noNode, smallBench};
+ghost use Rattle.meta.specs.View.{plainOf};
+ghost use Rattle.rules.specs.Rejection.{reject};
+ghost use Rattle.meta.specs.Rejections.{answerOf, byRule, rejectionOf, faultNumber, layerLetter};
+ghost use Rattle.normal.specs.Bench.{post, entries};
+ghost use Rattle.normal.specs.Held.{held, treeHeld};
+use crate::bench::Bench;
+use meta::book::Book;
+use meta::rejection::Fault;
+use meta::rejection::Layer;
+use meta::rejection::Rejection;
+use meta::rejection::shown_number;
+
+// Puts the normal form of a root, for usage or not, in place of what the bench holds, and answers where its top is.
+pub fn normalise(book: &Book, root: usize, for_usage: bool, bench: &mut Bench) -> Result<usize, Rejection>
+    ensures value { λ r. ⌜ answerOf r ≡ byRule (first (noNode (plainOf (now (book .entry))) root ∷ smallBench (plainOf (now (book .entry))) root (now (bench .entry) .places) ∷ [])) (length (post (normal «for_usage» (treeAt (plainOf (now (book .entry))) root))) - 1) ⌝ }
+    ensures items { λ r. ⌜ Cases r (λ _. held (plainOf (now (book .entry))) (now (bench .exit)) ≡ post (normal «for_usage» (treeAt (plainOf (now (book .entry))) root))) (λ _. now (bench .exit) ≡ now (bench .entry)) ⌝ }
+    ensures tree { λ r. ⌜ Cases r (λ at. treeHeld (plainOf (now (book .entry))) (now (bench .exit)) at ≡ normal «for_usage» (treeAt (plainOf (now (book .entry))) root)) (λ _. Unit {0}) ⌝ }
+    ensures same { λ _. ⌜ now (bench .exit) .places ≡ now (bench .entry) .places ⌝ }
+{
+    if root >= book.len() {
+        return Err(refusal(Fault::NoNode, Layer::Tree, root));
+    }
+    if bench.places() < 3 * book.len() + 2 {
+        return Err(refusal(Fault::Bench, Layer::Sheet, root));
+    }
+    bench.fill(book, root as u16, for_usage);
+    Ok(bench.nodes().len() - 1)
+}
+
+// A refusal that names the root.
+fn refusal(fault: Fault, layer: Layer, root: usize) -> Rejection
+    ensures { λ r. ⌜ rejectionOf r ≡ reject (faultNumber fault) (layerLetter layer) root ⌝ }
+{
+    Rejection {
+        fault,
+        layer,
+        record: shown_number(root),
+        within: Rejection::NONE,
+    }
+}
