@@ -3,3 +3,4 @@ pub mod Tops
 pub mod Rules
 pub mod Children
 pub mod Weights
+pub mod Rooms
