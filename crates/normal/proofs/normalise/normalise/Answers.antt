@@ -53,9 +53,10 @@ returns c =
     let enough : 3 * length (p .nodes) + 2 ≤ c .args .bench .now .places = omega arith in
     let long : length (c .nodes .result .now) ≡ length (post t) = as-many p _ (c .nodes .result .now) t (c .nodes .ensures) (c .fill .ensures .value) in
     let short : length (held p (c .fill .last .self)) ≤ suc (length (c .nodes .result .now) - 1) = omega (arith, long, ap length (c .fill .ensures .value)) in
+    let top : length (c .nodes .result .now) - 1 + 1 ≡ length (held p (c .fill .last .self)) = omega (arith, long, post-some t, ap length (c .fill .ensures .value)) in
     record {
       value = ap (λ (n : ℕ). Ok (n - 1)) long ∙ sym (ap (λ o. byRule o (length (post t) - 1)) (no-row p (c .args .root) (c .args .bench .now .places) within enough));
-      items = c .fill .ensures .value;
+      items = (c .fill .ensures .value, top);
       tree = tree-last t _ (length (c .nodes .result .now) - 1) (c .fill .ensures .value) short;
       same = c .fill .ensures .same;
     }

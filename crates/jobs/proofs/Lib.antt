@@ -1,0 +1,4 @@
+pub mod Stretches
+pub mod Filling
+pub mod Printing
+pub mod Lines

@@ -1,0 +1,6 @@
+pub mod Spelled
+pub mod Rows
+pub mod Shapes
+pub mod Composed
+pub mod Answered
+pub mod Lawful

@@ -1,0 +1,4 @@
+pub mod Standing
+pub mod Joins
+pub mod Left
+pub mod Lossless

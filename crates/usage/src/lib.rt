@@ -1,0 +1,5 @@
+// The usage line of a root: its normal form, written on a sheet.
+mod line;
+pub mod usage;
+mod words;
+mod write;
