@@ -6,7 +6,11 @@ use std::fs;
 use std::io::Write;
 
 fn main(rt: LibcRuntime) -> Result<(), AnyError> {
-    rt.report(run(&rt))
+    let done = run(&rt);
+    if let Err(e) = &done {
+        eprintln!(rt, "books: {e}")?;
+    }
+    done
 }
 
 fn run(rt: &LibcRuntime) -> Result<(), AnyError> {

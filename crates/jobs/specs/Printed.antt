@@ -4,6 +4,8 @@ use mathlib.Core.List.{List, [], _∷_, _++_}
 use lib.Chars.{codes}
 use lib.ListN.{take, drop}
 use Rattle.std.specs.Written.{decimal}
+use Rattle.std.specs.declared.result.Result.{Result}
+use Rattle.std.specs.declared.result.Result.the-variants.{Ok, Err}
 use Rattle.rules.specs.Style.{Style}
 use Rattle.rules.specs.Style as S
 use Rattle.rules.specs.Block.{Block}
@@ -61,3 +63,8 @@ abbrev pub shownRejection : Rejection → List ℕ
 shownRejection e =
     codes "refused " ++ (decimal (e .number) ++ (codes " " ++ (e .layer ∷ (codes " "
     ++ (decimal (e .«record») ++ (codes " " ++ (decimal (e .within) ++ (10 ∷ []))))))))
+
+-- the printout of an answer
+abbrev pub shownAnswer : Result Content Rejection → List ℕ
+shownAnswer (Ok c) = shownContent c
+shownAnswer (Err e) = shownRejection e

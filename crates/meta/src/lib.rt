@@ -2,7 +2,7 @@
 pub mod book;
 mod decode;
 mod examine;
-mod fields;
+pub mod fields;
 pub mod item;
 mod kind;
 pub mod rejection;
