@@ -19,7 +19,7 @@ use Rattle.buffer.specs.Tokens.{tokenOf}
 use Rattle.buffer.specs.Marks.{markView, marksView, sizeOf}
 use Rattle.buffer.specs.Places.{part, ends, lies, noteFrom, notesFrom}
 use Rattle.buffer.proofs.Steps.{none, marks-more, marks-all, sizes-mark}
-use Rattle.buffer.proofs.Cuts.{sizes-append}
+use Rattle.rules.proofs.Wholes.{sizes-append}
 
 -- what a loop over the marks keeps: the notes so far and what is left give all the notes
 pub record Cutting (ms : List CodeMark) (i : ℕ) (ts : List CodeToken) (ps : List Place) (first start end : ℕ) : Type 0 where

@@ -1,4 +1,4 @@
--- How a list of tokens grows by a text, in length and in the sum of its sizes.
+-- How a list of tokens grows by a text.
 use Prim.Native.Nat.{ℕ, zero, suc, _+_, _≤_}
 use mathlib.Core.Path.{_≡_, refl, ap, _∙_}
 use mathlib.Core.List.{List, [], _∷_, _++_, map, map-append}
@@ -12,34 +12,14 @@ use Rattle.rules.specs.Style.{Style}
 use Rattle.rules.specs.Style as S
 use Rattle.rules.specs.Notes.{Token, Text, Start, End, sizes}
 use Rattle.rules.specs.Content.{grown, extend}
+use Rattle.rules.proofs.Wholes.{sizes-append}
 use Rattle.buffer.specs.declared.token.Token.{Token as CodeToken}
 use Rattle.buffer.specs.Tokens.{tokenOf}
 use Rattle.buffer.specs.Lengths.{lenIn, endLen}
 
-pub sizes-append : (ts us : List Token) → sizes (ts ++ us) ≡ sizes ts + sizes us
-sizes-append [] us = omega arith
-sizes-append (Text s n ∷ ts) us = omega (arith, sizes-append ts us)
-sizes-append (Start b ∷ ts) us = sizes-append ts us
-sizes-append (End b ∷ ts) us = sizes-append ts us
-
 -- more of the code's tokens, as those of the rules
 pub tokens-append : (ts us more : List CodeToken) → us ≡ ts ++ more → map tokenOf us ≡ map tokenOf ts ++ map tokenOf more
 tokens-append ts us more e = ap (map tokenOf) e ∙ map-append tokenOf ts more
-
-sizes-grown : (t : Token) (st : Style) (n : ℕ) → sizes (grown t st n) ≡ sizes (t ∷ []) + n
-sizes-grown (Text s m) st n =
-    elim (eqb (S.number s) (S.number st)) as (λ b. sizes (cond b (Text st (m + n) ∷ []) (Text s m ∷ Text st n ∷ [])) ≡ (m + 0) + n)
-    [ true ↦ omega arith | false ↦ omega arith ]
-sizes-grown (Start b) st n = omega arith
-sizes-grown (End b) st n = omega arith
-
-pub sizes-extend : (ts : List Token) (st : Style) (n : ℕ) → sizes (extend ts st n) ≡ sizes ts + n
-unfolding extend
-sizes-extend [] st n = omega arith
-sizes-extend (t ∷ []) st n = sizes-grown t st n
-sizes-extend (Text s m ∷ (u ∷ ts)) st n = omega (arith, sizes-extend (u ∷ ts) st n)
-sizes-extend (Start b ∷ (u ∷ ts)) st n = sizes-extend (u ∷ ts) st n
-sizes-extend (End b ∷ (u ∷ ts)) st n = sizes-extend (u ∷ ts) st n
 
 grown-more : (t : Token) (st : Style) (n : ℕ) → 1 ≤ length (grown t st n)
 grown-more (Text s m) st n =

@@ -2,7 +2,6 @@ pub mod Steps
 pub mod Nesting
 pub mod Whole
 pub mod Lawful
-pub mod Cuts
 pub mod Numbered
 pub mod Cutting
 pub mod Opened

@@ -11,13 +11,13 @@ use Rattle.std.specs.declared.option.Option.the-variants.{Some, None}
 use Rattle.rules.specs.Lists.{all}
 use Rattle.rules.specs.Notes.{Mark, Note, sizes, tokensOf, marksOf, cut, notesOf}
 use Rattle.rules.specs.Sound.{whole}
+use Rattle.rules.proofs.Wholes.{all-pass, notes-whole}
 use Rattle.buffer.specs.declared.token.Token.{Token as CodeToken}
 use Rattle.buffer.specs.declared.mark.Mark.{Mark as CodeMark}
 use Rattle.buffer.specs.declared.store.Place.{Place}
 use Rattle.buffer.specs.Marks.{markView, marksView, lawfulIn}
 use Rattle.buffer.specs.Places.{lies, notesFrom}
 use Rattle.buffer.proofs.Lawful.{Opens, opens, opens-none, Kept, keeps, marks-long}
-use Rattle.buffer.proofs.Cuts.{cut-whole}
 
 -- no marks are found
 pub none-notes : (m t : List ℕ) (ts : List CodeToken) (bs : List ℕ) (ps : List Place) → ps ≡ [] → None ≡ lawfulIn m t (marksOf m) → notesFrom ts bs ps ≡ notesOf m t
@@ -53,6 +53,4 @@ module _ (m t : List ℕ) (v xs : List CodeMark) (e : Some (marksView v) ≡ law
     opened-notes h = notes-cut h ∙ sym (opening .notes)
 
     pub opened-whole : ((text : List ℕ) → notesFrom ts text ps ≡ cut [] text (marksView xs)) → all whole (notesFrom ts bs ps) ≡ true
-    opened-whole h =
-        ap (λ (ns : List Note). all whole ns) (notes-cut h)
-        ∙ cut-whole [] [] t (marksView v) (λ us. refl) (keeping .nest) (omega (arith, keeping .sum)) (keeping .texts)
+    opened-whole h = ap (λ (ns : List Note). all whole ns) (opened-notes h) ∙ all-pass whole (notesOf m t) (notes-whole m t)

@@ -9,7 +9,7 @@ use Rattle.std.specs.Of.Vec.{vec-len}
 use Rattle.std.specs.declared.option.Option.the-variants.{None}
 use Rattle.std.specs.declared.result.Result.{Result}
 use Rattle.std.specs.declared.result.Result.the-variants.{Ok, Err}
-use Rattle.rules.specs.Rejection.{book, shown, none}
+use Rattle.rules.specs.Rejection.{Rejection, reject, book}
 use Rattle.rules.specs.Plain.{Plain, addRule, grown, added, unless}
 use Rattle.buffer.specs.Stores.{notesIn}
 use Rattle.meta.specs.declared.book.Book.{Book}
@@ -52,13 +52,13 @@ answer-taken b r k e ok =
 
 -- a rejected one by its fault and that number
 pub answer-refused :
-    (b : Book) (r : List ℕ) (f : Fault) {n m : ℕ}
+    (b : Book) (r : List ℕ) (f : Fault) {n : ℕ} {x : Rejection}
     → n ≡ vec-len (b .nodes)
-    → m ≡ shown n
+    → x ≡ reject (faultNumber f) book n
     → Err f ≡ admittedTo (plainOf b) r
-    → Err (record { number = faultNumber f; layer = book; «record» = m; within = none }) ≡ byRule (addRule (plainOf b) r) (length (plainOf b .nodes))
+    → Err x ≡ byRule (addRule (plainOf b) r) (length (plainOf b .nodes))
 answer-refused b r f e g err =
-    ap (λ (t : ℕ). Err (record { number = faultNumber f; layer = book; «record» = t; within = none })) (g ∙ ap shown (e ∙ sym (nodes-long b)))
+    ap (λ (y : Rejection). Err y) (g ∙ ap (reject (faultNumber f) book) (e ∙ sym (nodes-long b)))
     ∙ sym (ap (λ o. byRule o (length (plainOf b .nodes))) (refused (plainOf b) r f err))
 
 pub added-none : (b : Book) (r : List ℕ) (f : Fault) → Err f ≡ admittedTo (plainOf b) r → plainOf b ≡ added (plainOf b) r

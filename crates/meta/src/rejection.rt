@@ -1,7 +1,7 @@
 // Why a call is refused.
 ghost use mathlib.Core.Path.{_≡_};
-ghost use Rattle.meta.specs.Rejections.{faultNumber, layerLetter};
-ghost use Rattle.rules.specs.Rejection.{shown};
+ghost use Rattle.rules.specs.Rejection.{shown, reject};
+ghost use Rattle.meta.specs.Rejections.{faultNumber, layerLetter, rejectionOf};
 
 // The layer that refuses: the book, the tree in it, or the sheet with its bench.
 #[derive(Clone, Copy)]
@@ -80,7 +80,7 @@ impl Layer {
 }
 
 // A number as a rejection shows it: none for one that is too large.
-pub fn shown_number(n: usize) -> u16
+fn shown_number(n: usize) -> u16
     ensures { λ r. ⌜ r ≡ shown n ⌝ }
 {
     if n <= 65534 { n as u16 } else { Rejection::NONE }
@@ -89,4 +89,16 @@ pub fn shown_number(n: usize) -> u16
 impl Rejection {
     // Stands for no record, and for one whose number is too large to be shown.
     pub const NONE: u16 = 65535;
+
+    // A rejection about a record, with no command around it.
+    pub fn new(fault: Fault, layer: Layer, record: usize) -> Rejection
+        ensures { λ r. ⌜ rejectionOf r ≡ reject (faultNumber fault) (layerLetter layer) «record» ⌝ }
+    {
+        Rejection {
+            fault,
+            layer,
+            record: shown_number(record),
+            within: Rejection::NONE,
+        }
+    }
 }

@@ -9,8 +9,7 @@ ghost use Rattle.rules.specs.Tree.{treeAt};
 ghost use Rattle.rules.specs.NormalForm.{normal};
 ghost use Rattle.rules.specs.Table.{noNode, smallBench};
 ghost use Rattle.meta.specs.View.{plainOf};
-ghost use Rattle.rules.specs.Rejection.{reject};
-ghost use Rattle.meta.specs.Rejections.{answerOf, byRule, rejectionOf, faultNumber, layerLetter};
+ghost use Rattle.meta.specs.Rejections.{answerOf, byRule};
 ghost use Rattle.normal.specs.Bench.{post};
 ghost use Rattle.normal.specs.Held.{held, treeHeld};
 use crate::bench::Bench;
@@ -18,7 +17,6 @@ use meta::book::Book;
 use meta::rejection::Fault;
 use meta::rejection::Layer;
 use meta::rejection::Rejection;
-use meta::rejection::shown_number;
 
 // Puts the normal form of a root, for usage or not, in place of what the bench holds, and answers where its top is.
 pub fn normalise(book: &Book, root: usize, for_usage: bool, bench: &mut Bench) -> Result<usize, Rejection>
@@ -28,23 +26,11 @@ pub fn normalise(book: &Book, root: usize, for_usage: bool, bench: &mut Bench) -
     ensures same { λ _. ⌜ now (bench .exit) .places ≡ now (bench .entry) .places ⌝ }
 {
     if root >= book.len() {
-        return Err(refusal(Fault::NoNode, Layer::Tree, root));
+        return Err(Rejection::new(Fault::NoNode, Layer::Tree, root));
     }
     if bench.places() < 3 * book.len() + 2 {
-        return Err(refusal(Fault::Bench, Layer::Sheet, root));
+        return Err(Rejection::new(Fault::Bench, Layer::Sheet, root));
     }
     bench.fill(book, root as u16, for_usage);
     Ok(bench.nodes().len() - 1)
-}
-
-// A refusal that names the root.
-fn refusal(fault: Fault, layer: Layer, root: usize) -> Rejection
-    ensures { λ r. ⌜ rejectionOf r ≡ reject (faultNumber fault) (layerLetter layer) root ⌝ }
-{
-    Rejection {
-        fault,
-        layer,
-        record: shown_number(root),
-        within: Rejection::NONE,
-    }
 }

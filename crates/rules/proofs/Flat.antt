@@ -17,6 +17,7 @@ use Rattle.rules.specs.Tree.{Short, Long, Both}
 use Rattle.rules.specs.Reading.{Reading, end, one, round, square, Element, word, note, space, bar, dots, dashes, flag, argument, positional, command}
 use Rattle.rules.specs.Content.{Content, Op, Tok, Str, Raw, grown, extend, apply, applies, blank, elementOps, spell, lineOps, line}
 use Rattle.rules.specs.Laws.{FitElement, isWord, Fit}
+use Rattle.rules.proofs.Wholes.{sizes-append}
 use Rattle.rules.proofs.Events.{Event, bytesIn, noteEvents, metavarBytes, elementEvents, Bracket, before, behind, groupEvents, events, lineEvents, byte, chunk, opens, shuts, curved, cornered}
 use Rattle.rules.proofs.Nested.{Nested, whole-parts}
 use Rattle.rules.proofs.ReadBack.{events-determine}
@@ -194,11 +195,6 @@ deeps-extend d [] st n = refl
 deeps-extend d (t ∷ []) st n = deeps-grown d t st n
 deeps-extend d (t ∷ (u ∷ ts)) st n = deeps-extend (deep d t) (u ∷ ts) st n
 
--- how many bytes behind
-sizes-++ : (ts us : List Token) → sizes (ts ++ us) ≡ sizes ts + sizes us
-sizes-++ [] us = omega arith
-sizes-++ (t ∷ ts) us = omega (arith, sizes-++ ts us, sizes-more t ts, sizes-more t (ts ++ us))
-
 sizes-grown : (t : Token) (st : Style) (n : ℕ) → sizes (grown t st n) ≡ size t + n
 sizes-grown (Text s′ m) st n = go (eqb (S.number s′) (S.number st))
   where
@@ -208,7 +204,7 @@ sizes-grown (Text s′ m) st n = go (eqb (S.number s′) (S.number st))
 sizes-grown (Start b) st n = omega arith
 sizes-grown (End b) st n = omega arith
 
-sizes-extend : (ts : List Token) (st : Style) (n : ℕ) → sizes (extend ts st n) ≡ sizes ts + n
+pub sizes-extend : (ts : List Token) (st : Style) (n : ℕ) → sizes (extend ts st n) ≡ sizes ts + n
 unfolding extend
 sizes-extend [] st n = omega arith
 sizes-extend (t ∷ []) st n = omega (arith, sizes-grown t st n, sizes-more t [])
@@ -251,7 +247,7 @@ op-step c (Tok t) e h =
     record {
       shows = ap (flat 0 (c .tokens ++ t ∷ [])) (sym (append-nil (c .bytes))) ∙ flat-++ 0 (c .tokens) (t ∷ []) (c .bytes) [] e;
       depth = deeps-++ 0 (c .tokens) (t ∷ []);
-      sum = omega (arith, sizes-++ (c .tokens) (t ∷ []));
+      sum = omega (arith, sizes-append (c .tokens) (t ∷ []));
     }
 op-step c (Str st s) e h =
     record {
@@ -263,7 +259,7 @@ op-step c (Raw n) e h =
     record {
       shows = flat-++ 0 (c .tokens) (n .tokens) (c .bytes) (n .bytes) e;
       depth = deeps-++ 0 (c .tokens) (n .tokens);
-      sum = omega (arith, sizes-++ (c .tokens) (n .tokens), length-append (c .bytes) (n .bytes));
+      sum = omega (arith, sizes-append (c .tokens) (n .tokens), length-append (c .bytes) (n .bytes));
     }
 
 ops-events : (c : Content) (ops : List Op) → sizes (c .tokens) ≡ length (c .bytes) → OpsFit (deeps 0 (c .tokens)) ops

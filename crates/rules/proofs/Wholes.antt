@@ -42,7 +42,7 @@ all-at P [] k x a h = absurd (none-some x h)
 all-at P (y ∷ ys) zero x (p, a) h = subst P (un-some y x h) p
 all-at P (y ∷ ys) (suc k) x (p, a) h = all-at P ys k x a h
 
-sizes-append : (ts us : List Token) → sizes (ts ++ us) ≡ sizes ts + sizes us
+pub sizes-append : (ts us : List Token) → sizes (ts ++ us) ≡ sizes ts + sizes us
 sizes-append [] us = omega arith
 sizes-append (Text s n ∷ ts) us = omega (arith, sizes-append ts us)
 sizes-append (Start b ∷ ts) us = sizes-append ts us

@@ -1,6 +1,6 @@
 // What holds of every tree, every reading and every book, as contracts of functions that do nothing.
 ghost use Rattle.rules.specs.Laws.{Stays-sound, Weight-bound, Roll-stands, Line-determines, One-reading};
-ghost use Rattle.rules.specs.Worked.{Worked-lines};
+ghost use Rattle.rules.specs.Worked.{Worked-answers, Worked-lines};
 
 pub fn books_stay_sound()
     ensures { λ _. ⌜ Stays-sound ⌝ }
@@ -29,5 +29,10 @@ pub fn one_reading()
 
 pub fn worked_lines_stand()
     ensures { λ _. ⌜ Worked-lines ⌝ }
+{
+}
+
+pub fn worked_answers_stand()
+    ensures { λ _. ⌜ Worked-answers ⌝ }
 {
 }

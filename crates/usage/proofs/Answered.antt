@@ -2,11 +2,11 @@
 use Prim.Native.Nat.{ℕ, _+_, _*_, _≤_, min}
 use mathlib.Core.Path.{_≡_, refl, sym, _∙_, ap, subst}
 use mathlib.Core.Bool.{Bool, true, false, not}
-use mathlib.Core.List.{List, [], _∷_, _++_, map}
+use mathlib.Core.List.{List, [], _∷_, map}
 use native.Mathlib.Omega.{arith}
 use lib.Dec.{eqb, leb, ltb}
-use lib.ListN.{length, take, length-map}
-use Rattle.std.specs.Of.Vec.{vec-items, vec-len}
+use lib.ListN.{length, length-map}
+use Rattle.std.specs.Of.Vec.{vec-items}
 use Rattle.std.specs.declared.option.Option.{Option}
 use Rattle.std.specs.declared.option.Option.the-variants.{Some, None}
 use Rattle.std.specs.declared.result.Result.the-variants.{Ok, Err}
@@ -23,7 +23,7 @@ use Rattle.buffer.specs.Contents.{contentOf, limitsOf}
 use Rattle.buffer.specs.Tokens.{tokenOf}
 use Rattle.meta.specs.Rejections.{byRule}
 use Rattle.normal.specs.declared.bench.Normal.{Normal}
-use Rattle.normal.specs.Bench.{Entry, entries, post}
+use Rattle.normal.specs.Bench.{entries, post}
 use Rattle.usage.specs.Standing.{TreeAt}
 
 -- the first two rows hold, so the third answers
@@ -58,15 +58,6 @@ early-number p root places y e h = go (leb (length (p .nodes)) root) (ltb places
     go true b k = let n : e ≡ reject 20 tree root = cc in ap (λ (r : Rejection). eqb (r .number) 32) n
     go false true k = let n : e ≡ reject 30 sheet root = cc in ap (λ (r : Rejection). eqb (r .number) 32) n
     go false false k = cc
-
--- what stands on a sheet fits it
-pub sheet-fits : (s : Sheet) → fits (limitsOf s) (contentOf s) ≡ true
-unfolding limitsOf contentOf
-sheet-fits s =
-    let t : length (map tokenOf (vec-items (s .tokens))) ≤ min (s .«max_tokens») 4096 =
-    (let m = length-map (vec-items (s .tokens)) tokenOf in omega (arith, s .tokens .ok .0, s .few, s .limited)) in
-    let b : length (vec-items (s .bytes)) ≤ min (s .«max_bytes») 32768 = omega (arith, s .bytes .ok .0, s .short, s .small) in
-    and-from _ _ (le-leb _ _ t) (le-leb _ _ b)
 
 -- the whole bench is one tree
 pub whole-bench : (p : Plain) (ns ms : List Normal) (at : ℕ) (t : Meta) → ms ≡ ns → entries p ns ≡ post t → at + 1 ≡ length (entries p ns) → TreeAt (entries p ms) at t

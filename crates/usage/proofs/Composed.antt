@@ -1,5 +1,5 @@
 -- Writes behind each other, over whole writers.
-use mathlib.Core.Path.{_≡_, refl, sym, _∙_, ap, ap₂, subst}
+use mathlib.Core.Path.{_≡_, sym, _∙_, ap, ap₂, subst}
 use mathlib.Core.List.{List, [], _∷_, _++_}
 use Prim.Native.Nat.{ℕ}
 use mathlib.Core.Bool.{true}
@@ -10,7 +10,7 @@ use Rattle.std.specs.declared.result.Result.the-variants.{Ok, Err}
 use Rattle.rules.specs.Lists.{at, or-else}
 use Rattle.rules.specs.Tree.{Meta, noNote}
 use Rattle.rules.specs.Reading.{reading}
-use Rattle.rules.specs.Content.{Content, Limits, Op, apply, applies, blank, written, spell, doc}
+use Rattle.rules.specs.Content.{Content, Limits, Op, applies, blank, written, spell, doc}
 use Rattle.buffer.specs.declared.store.Store.{Store}
 use Rattle.buffer.specs.Stores.{notesIn}
 use Rattle.buffer.specs.declared.sheet.Sheet.{Sheet}

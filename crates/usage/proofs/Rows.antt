@@ -1,12 +1,12 @@
 -- Rows of trees, from their last tree.
 use Prim.Native.Nat.{ℕ, suc}
 use mathlib.Core.Path.{_≡_, refl, sym, _∙_, ap}
-use mathlib.Core.List.{List, [], _∷_, _++_, append-assoc}
+use mathlib.Core.List.{List, [], _++_, append-assoc}
 use native.Mathlib.Omega.{arith}
 use Rattle.std.proofs.shelf.Lists.{append-nil}
 use Rattle.rules.specs.Tree.{Meta, Metas}
 use Rattle.rules.specs.Tree.Metas.{none, more}
-use Rattle.rules.specs.Reading.{Element, Reading, then, reading, joined, joinedRest}
+use Rattle.rules.specs.Reading.{Element, then, reading, joined, joinedRest}
 use Rattle.rules.specs.Reading as R
 use Rattle.rules.specs.Content.{Op, elementOps, spell}
 use Rattle.normal.specs.Bench.{Entry, len, post, posts}

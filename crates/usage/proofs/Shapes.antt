@@ -6,7 +6,7 @@ use native.Mathlib.Omega.{arith}
 use lib.ListN.{length, take, getD, length-append}
 use Rattle.std.proofs.shelf.Lists.{take-more, take-at, take-take, length-take-le}
 use Rattle.rules.specs.Plain.{Plain}
-use Rattle.rules.specs.Tree.{Meta, Metas, Item, inside}
+use Rattle.rules.specs.Tree.{Meta, Metas, inside}
 use Rattle.normal.specs.Bench.{Top, Entry, len, seal, post, posts, topOf, entryOf, entries}
 use Rattle.normal.specs.declared.bench.Form.{Form}
 use Rattle.normal.specs.declared.bench.Normal.{Normal}

@@ -1,9 +1,9 @@
 -- How readings behind each other are written out.
 use mathlib.Core.Path.{_≡_, refl, sym, _∙_, ap}
-use mathlib.Core.List.{List, [], _∷_, _++_, append-assoc}
+use mathlib.Core.List.{List, _∷_, _++_, append-assoc}
 use lib.Chars.{codes}
 use Rattle.rules.specs.Style as S
-use Rattle.rules.specs.Reading.{Element, Reading, then}
+use Rattle.rules.specs.Reading.{Reading, then}
 use Rattle.rules.specs.Reading as R
 use Rattle.rules.specs.Content.{Op, Str, elementOps, spell}
 

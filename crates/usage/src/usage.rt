@@ -18,7 +18,6 @@ use meta::book::Book;
 use meta::rejection::Fault;
 use meta::rejection::Layer;
 use meta::rejection::Rejection;
-use meta::rejection::shown_number;
 use normal::bench::Bench;
 use normal::normalise::normalise;
 
@@ -48,10 +47,5 @@ fn refuse(root: usize, sheet: &mut Sheet) -> Rejection
     ensures same { λ _. ⌜ limitsOf (now (sheet .exit)) ≡ limitsOf (now (sheet .entry)) ⌝ }
 {
     sheet.clear();
-    Rejection {
-        fault: Fault::Long,
-        layer: Layer::Sheet,
-        record: shown_number(root),
-        within: Rejection::NONE,
-    }
+    Rejection::new(Fault::Long, Layer::Sheet, root)
 }

@@ -18,7 +18,6 @@ use crate::fields::RECORD_SIZE;
 use crate::rejection::Fault;
 use crate::rejection::Layer;
 use crate::rejection::Rejection;
-use crate::rejection::shown_number;
 use buffer::store::Store;
 use std::alloc::AllocError;
 use std::alloc::Global;
@@ -54,12 +53,7 @@ impl Book {
                 self.place(record, takes);
                 Ok(number as u16)
             }
-            Err(fault) => Err(Rejection {
-                fault,
-                layer: Layer::Book,
-                record: shown_number(number),
-                within: Rejection::NONE,
-            }),
+            Err(fault) => Err(Rejection::new(fault, Layer::Book, number)),
         }
     }
 

@@ -12,13 +12,14 @@ use Rattle.rules.specs.NormalForm.{normal}
 use Rattle.rules.specs.Reading.{readingOf}
 use Rattle.rules.specs.Content.{blank, fits, line}
 use Rattle.buffer.specs.Contents.{contentOf, limitsOf}
+use Rattle.buffer.proofs.Held.{held-fits}
 use Rattle.buffer.proofs.Writing.{over-fits}
 use Rattle.rules.specs.Table.{noNode, smallBench}
 use Rattle.meta.specs.View.{plainOf}
 use Rattle.meta.specs.Rejections.{answerOf, rejectionOf}
 use Rattle.meta.specs.declared.rejection.Rejection.{Rejection as CodeRejection}
 use Rattle.usage.specs.Left.{leftBy}
-use Rattle.usage.proofs.Answered.{answered-early, answered-line, answered-long, early-number, sheet-fits, whole-bench}
+use Rattle.usage.proofs.Answered.{answered-early, answered-line, answered-long, early-number, whole-bench}
 use Rattle.meta.proofs.Stands.{book-sound}
 use Rattle.usage.proofs.Lawful.{lossless}
 use Rattle.usage.proofs.usage.usage.Needs as need
@@ -38,7 +39,7 @@ returns-in-Ok c =
     let t : Meta = normal true (treeAt p (c .args .root)) in
     let w = c .in-Ok .ensures tt t (whole-bench p (vec-items (c .normalise .last .bench .nodes)) (c .nodes .result .now) (c .in-Continue-top .top) t (c .nodes .ensures) (m .0) (m .1)) in
     record {
-      value = answered-line p (c .args .root) (c .args .bench .now .places) (c .in-Continue-top .top) _ (limitsOf (c .args .sheet .now)) (line (readingOf p (c .args .root))) (c .in-Continue-top .ensures tt .value) (sym (ap₂ fits (w .0) (w .1)) ∙ sheet-fits (c .write-line .last .sheet));
+      value = answered-line p (c .args .root) (c .args .bench .now .places) (c .in-Continue-top .top) _ (limitsOf (c .args .sheet .now)) (line (readingOf p (c .args .root))) (c .in-Continue-top .ensures tt .value) (sym (ap₂ fits (w .0) (w .1)) ∙ held-fits (c .write-line .last .sheet));
       after = w .1;
       law = lossless p (c .args .root) _ (book-sound (c .args .book .now)) (w .1);
       same = (w .0, c .normalise .ensures .same);

@@ -7,7 +7,8 @@ use Rattle.rules.specs.Notes.{sizes}
 use Rattle.rules.specs.Content.{apply}
 use Rattle.buffer.specs.Tokens.{tokenOf}
 use Rattle.buffer.specs.Contents.{contentOf, limitsOf}
-use Rattle.buffer.proofs.Growth.{sizes-append, tokens-append}
+use Rattle.rules.proofs.Wholes.{sizes-append}
+use Rattle.buffer.proofs.Growth.{tokens-append}
 use Rattle.buffer.proofs.Writing.{tok-over}
 use Rattle.buffer.proofs.sheet.Sheet.push.Needs as need
 

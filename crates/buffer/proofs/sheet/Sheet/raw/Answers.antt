@@ -7,7 +7,8 @@ use Rattle.rules.specs.Notes.{sizes, Note}
 use Rattle.rules.specs.Content.{apply}
 use Rattle.buffer.specs.Tokens.{tokenOf}
 use Rattle.buffer.specs.Contents.{contentOf, limitsOf}
-use Rattle.buffer.proofs.Growth.{sizes-append, tokens-append}
+use Rattle.rules.proofs.Wholes.{sizes-append}
+use Rattle.buffer.proofs.Growth.{tokens-append}
 use Rattle.buffer.proofs.Writing.{raw-over-tokens, raw-over-bytes}
 use Rattle.buffer.proofs.sheet.Sheet.raw.Needs as need
 

@@ -9,7 +9,7 @@ use Rattle.rules.specs.Notes.{sizes}
 use Rattle.rules.specs.Content.{apply}
 use Rattle.buffer.specs.Tokens.{tokenOf, styleOf}
 use Rattle.buffer.specs.Contents.{contentOf, limitsOf}
-use Rattle.buffer.proofs.Growth.{sizes-extend}
+use Rattle.rules.proofs.Flat.{sizes-extend}
 use Rattle.buffer.proofs.Writing.{str-over-tokens, str-over-bytes}
 use Rattle.buffer.proofs.sheet.Sheet.write_str.Needs as need
 

@@ -14,7 +14,7 @@ returns-in-Ok c = record {
 
 pub returns-in-Err : need.returns-in-Err
 returns-in-Err c = record {
-  value = answer-refused (c .args .self .now) (c .args .record .now) (c .in-Err .fault) (c .len-number .ensures) (c .shown-number .ensures) (c .in-Err .ensures tt);
+  value = answer-refused (c .args .self .now) (c .args .record .now) (c .in-Err .fault) (c .len-number .ensures) (c .new .ensures) (c .in-Err .ensures tt);
   after = added-none (c .args .self .now) (c .args .record .now) (c .in-Err .fault) (c .in-Err .ensures tt);
   sound = book-sound (c .args .self .now);
 }
