@@ -25,7 +25,12 @@ fn show(rt: &LibcRuntime, folder: &str) -> Result<(), AnyError> {
     let book = read(rt, folder, "book")?;
     let marks = read(rt, folder, "marks")?;
     let text = read(rt, folder, "bytes")?;
-    let printed = printed_line(rt.alloc(), book.as_slice(), marks.as_slice(), text.as_slice())?;
+    let printed = printed_line(
+        rt.alloc(),
+        book.as_slice(),
+        marks.as_slice(),
+        text.as_slice(),
+    )?;
     rt.stdout().write_all(printed.as_slice())?;
     Ok(())
 }

@@ -16,7 +16,12 @@ fn run(rt: &LibcRuntime) -> Result<(), AnyError> {
     let book = read(rt, "book")?;
     let marks = read(rt, "marks")?;
     let text = read(rt, "bytes")?;
-    let printed = printed_line(rt.alloc(), book.as_slice(), marks.as_slice(), text.as_slice())?;
+    let printed = printed_line(
+        rt.alloc(),
+        book.as_slice(),
+        marks.as_slice(),
+        text.as_slice(),
+    )?;
     rt.stdout().write_all(printed.as_slice())?;
     Ok(())
 }

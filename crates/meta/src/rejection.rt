@@ -83,7 +83,11 @@ impl Layer {
 fn shown_number(n: usize) -> u16
     ensures { λ r. ⌜ r ≡ shown n ⌝ }
 {
-    if n <= 65534 { n as u16 } else { Rejection::NONE }
+    if n <= 65534 {
+        n as u16
+    } else {
+        Rejection::NONE
+    }
 }
 
 impl Rejection {

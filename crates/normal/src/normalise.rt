@@ -19,7 +19,12 @@ use meta::rejection::Layer;
 use meta::rejection::Rejection;
 
 // Puts the normal form of a root, for usage or not, in place of what the bench holds, and answers where its top is.
-pub fn normalise(book: &Book, root: usize, for_usage: bool, bench: &mut Bench) -> Result<usize, Rejection>
+pub fn normalise(
+    book: &Book,
+    root: usize,
+    for_usage: bool,
+    bench: &mut Bench,
+) -> Result<usize, Rejection>
     ensures value { λ r. ⌜ answerOf r ≡ byRule (first (noNode (plainOf (now (book .entry))) root ∷ smallBench (plainOf (now (book .entry))) root (now (bench .entry) .places) ∷ [])) (length (post (normal «for_usage» (treeAt (plainOf (now (book .entry))) root))) - 1) ⌝ }
     ensures items { λ r. ⌜ Cases r (λ at. (held (plainOf (now (book .entry))) (now (bench .exit)) ≡ post (normal «for_usage» (treeAt (plainOf (now (book .entry))) root))) × (at + 1 ≡ length (held (plainOf (now (book .entry))) (now (bench .exit))))) (λ _. now (bench .exit) ≡ now (bench .entry)) ⌝ }
     ensures tree { λ r. ⌜ Cases r (λ at. treeHeld (plainOf (now (book .entry))) (now (bench .exit)) at ≡ normal «for_usage» (treeAt (plainOf (now (book .entry))) root)) (λ _. Unit {0}) ⌝ }

@@ -16,7 +16,6 @@ use crate::bench::Form;
 use crate::bench::Normal;
 use crate::name::one_named;
 use crate::strict::StrictNorm;
-use meta::book::Book;
 use crate::tail::bare;
 use crate::tail::close_and;
 use crate::tail::close_or;
@@ -27,6 +26,7 @@ use crate::tail::put;
 use crate::tail::required;
 use crate::tail::settle;
 use crate::tail::wrap;
+use meta::book::Book;
 use meta::item::Meta;
 
 // Puts the normal form of an And over `children`, which are below `n`, at the bench's end.

@@ -17,7 +17,12 @@ use meta::book::Book;
 use normal::bench::Normal;
 
 // Writes the line of the tree whose top is the node at a place, in place of what stands on the sheet.
-pub(crate) fn write_line(book: &Book, nodes: &[Normal], at: usize, sheet: &mut Sheet) -> Result<(), Full>
+pub(crate) fn write_line(
+    book: &Book,
+    nodes: &[Normal],
+    at: usize,
+    sheet: &mut Sheet,
+) -> Result<(), Full>
     requires { ⌜ ((t : Meta) × TreeAt (entries (plainOf (now book)) (now nodes)) at t) ⌝ }
     ensures { λ r. ⌜ ((t : Meta) → TreeAt (entries (plainOf (now (book .entry))) (now (nodes .entry))) at t → Anew (now (sheet .entry)) (lineOps (reading t)) (now (sheet .exit)) r) ⌝ }
 {

@@ -33,7 +33,12 @@ fn write_join(sheet: &mut Sheet, join: Join) -> Result<(), Full>
 }
 
 // Writes the tree whose top is the node at a place.
-pub(crate) fn write_meta(book: &Book, nodes: &[Normal], at: usize, sheet: &mut Sheet) -> Result<(), Full>
+pub(crate) fn write_meta(
+    book: &Book,
+    nodes: &[Normal],
+    at: usize,
+    sheet: &mut Sheet,
+) -> Result<(), Full>
     requires { ⌜ ((t : Meta) × TreeAt (entries (plainOf (now book)) (now nodes)) at t) ⌝ }
     ensures { λ r. ⌜ ((t : Meta) → TreeAt (entries (plainOf (now (book .entry))) (now (nodes .entry))) at t → Wrote (now (sheet .entry)) (spell (reading t)) (now (sheet .exit)) r) ⌝ }
 {

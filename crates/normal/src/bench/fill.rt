@@ -11,8 +11,8 @@ ghost use Rattle.rules.specs.Weight.{weight};
 ghost use Rattle.meta.specs.View.{plainOf};
 use crate::bench::Bench;
 use crate::bench::Normal;
-use meta::book::Book;
 use crate::walk::normalise_root;
+use meta::book::Book;
 
 impl Bench {
     // The places that it was made for.

@@ -12,6 +12,6 @@ pub returns : need.returns
 returns c =
     c .is-empty .ensures
     ∙ ap (λ (n : ℕ). eqb n 0)
-      (sym (length-map (c .tokens .result .now) tokenOf)
-      ∙ (ap length (c .tokens .ensures .value)
-      ∙ ap (λ (s : Store). length (noteNumbered s (c .args .note) .tokens)) (c .store .ensures)))
+    (sym (length-map (c .tokens .result .now) tokenOf)
+    ∙ (ap length (c .tokens .ensures .value)
+    ∙ ap (λ (s : Store). length (noteNumbered s (c .args .note) .tokens)) (c .store .ensures)))

@@ -21,10 +21,11 @@ returns c =
     let p = plainOf (c .args .self .now) in
     let n : Node = record { «record» = c .in-Continue-record .record .now; children = c .in-Continue-children .children .now } in
     let here = node-of (at (p .nodes) (c .args .number)) _ _ (c .in-Continue-record .ensures tt) (c .in-Continue-children .ensures tt) in
-    let below = stands-below (length (p .notes)) (c .args .number) n (book-sound (c .args .self .now) .standing (c .args .number) n here) in
-    ( at-some (p .nodes) (c .args .number) n here
-    , decoded-tree p (c .args .number) n (c .decode .result) here below (c .decode .ensures .value)
-    , c .decode .ensures .bound below )
+    let below = stands-below (length (p .notes)) (c .args .number) n (book-sound (c .args .self .now) .standing (c .args .number) n here) in (
+      at-some (p .nodes) (c .args .number) n here,
+      decoded-tree p (c .args .number) n (c .decode .result) here below (c .decode .ensures .value),
+      c .decode .ensures .bound below,
+    )
 
 pub returns-in-Break-record : need.returns-in-Break-record
 returns-in-Break-record c = rw (c .from-residual .ensures) (at-none _ _ (unmapped (λ (n : Node). n .«record») _ (c .in-Break-record .ensures tt)))
