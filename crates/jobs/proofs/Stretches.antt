@@ -9,7 +9,8 @@ use native.Mathlib.Omega.{arith}
 use lib.ListN.{length, take, drop, length-drop}
 use Rattle.std.proofs.shelf.Tests.{cases-lt, eqb-false}
 use Rattle.std.proofs.shelf.Lists.{take-all, drop-all}
-use Rattle.jobs.specs.Jobs.{recordsIn, stretches}
+use Rattle.rules.specs.Lists.{stretches}
+use Rattle.jobs.specs.Jobs.{recordsIn}
 
 count-more : (n : ℕ) → 0 < n → (n + 127) / 128 ≡ suc (((n - 128) + 127) / 128)
 count-more n h = omega arith
@@ -17,14 +18,14 @@ count-more n h = omega arith
 -- no bytes are no record
 pub records-none : (bs : List ℕ) → length bs ≡ 0 → recordsIn bs ≡ []
 unfolding recordsIn
-records-none bs h = ap (λ n. stretches ((n + 127) / 128) bs) h
+records-none bs h = ap (λ n. stretches 128 ((n + 127) / 128) bs) h
 
 -- the first record, and the others
 pub records-more : (bs : List ℕ) → 0 < length bs → recordsIn bs ≡ take 128 bs ∷ recordsIn (drop 128 bs)
 unfolding recordsIn
 records-more bs h =
-    ap (λ n. stretches n bs) (count-more (length bs) h)
-    ∙ ap (λ n. take 128 bs ∷ stretches ((n + 127) / 128) (drop 128 bs)) (sym (length-drop 128 bs))
+    ap (λ n. stretches 128 n bs) (count-more (length bs) h)
+    ∙ ap (λ n. take 128 bs ∷ stretches 128 ((n + 127) / 128) (drop 128 bs)) (sym (length-drop 128 bs))
 
 -- the part of a list up to so many, or to its end
 pub take-least : (n : ℕ) (bs : List ℕ) → take (min (length bs) n) bs ≡ take n bs

@@ -1,12 +1,12 @@
 -- What the programs do with the bytes of their files.
-use Prim.Native.Nat.{ℕ, zero, suc, _+_, _-_, _/_}
+use Prim.Native.Nat.{ℕ, _+_, _-_, _/_}
 use mathlib.Core.List.{List, [], _∷_}
-use lib.ListN.{length, take, drop}
+use lib.ListN.{length}
 use Rattle.std.specs.declared.option.Option.{Option}
 use Rattle.std.specs.declared.option.Option.the-variants.{Some, None}
 use Rattle.std.specs.declared.result.Result.{Result}
 use Rattle.std.specs.declared.result.Result.the-variants.{Ok, Err}
-use Rattle.rules.specs.Lists.{first}
+use Rattle.rules.specs.Lists.{first, stretches}
 use Rattle.rules.specs.Rejection.{Rejection}
 use Rattle.rules.specs.Plain.{Plain, new, addRule, added}
 use Rattle.rules.specs.Reading.{readingOf}
@@ -17,14 +17,9 @@ use Rattle.buffer.specs.Contents.{contentOf}
 use Rattle.meta.specs.declared.rejection.Rejection.{Rejection as CodeRejection}
 use Rattle.meta.specs.Rejections.{rejectionOf, byRule}
 
--- so many stretches of 128 bytes, the last of which may be shorter
-abbrev pub stretches : ℕ → List ℕ → List (List ℕ)
-stretches zero bs = []
-stretches (suc n) bs = take 128 bs ∷ stretches n (drop 128 bs)
-
--- the records in the bytes of a file; a broken tail is one more
+-- the records in the bytes of a file: stretches of 128 bytes; a broken tail is one more
 unfoldable pub recordsIn : List ℕ → List (List ℕ)
-recordsIn bs = stretches ((length bs + 127) / 128) bs
+recordsIn bs = stretches 128 ((length bs + 127) / 128) bs
 
 -- the book that adds leave, and the rejection that ended them, if one did
 pub record Filled : Type 0 where

@@ -8,7 +8,7 @@ use lib.ListN.{length, take, drop}
 use Rattle.std.specs.shelf.Lists.{joined}
 use Rattle.std.specs.declared.option.Option.{Option}
 use Rattle.std.specs.declared.option.Option.the-variants.{Some, None}
-use Rattle.rules.specs.Lists.{at, any}
+use Rattle.rules.specs.Lists.{at, any, stretches}
 use Rattle.rules.specs.Style as S
 use Rattle.rules.specs.Block as B
 use Rattle.rules.specs.HiTy.{HiTy}
@@ -35,12 +35,8 @@ pub record Request : Type 0 where
   pub environment : Bool
 
 -- the path in stretches of 32 bytes, the last of which may be shorter
-abbrev pub stretches : ℕ → List ℕ → List (List ℕ)
-stretches zero bs = []
-stretches (suc n) bs = take 32 bs ∷ stretches n (drop 32 bs)
-
 abbrev pub pathWords : List ℕ → List (List ℕ)
-pathWords bs = stretches ((length bs + 31) / 32) bs
+pathWords bs = stretches 32 ((length bs + 31) / 32) bs
 
 -- the name of an option in a list: a lone long one is moved in behind the shorts
 abbrev pub listedName : ShortLong → List Op
