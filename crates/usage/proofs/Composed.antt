@@ -20,9 +20,9 @@ use Rattle.usage.specs.Left.{Anew}
 use Rattle.buffer.proofs.Writing.{applies-++, over-applies}
 
 -- a writer behind one that wrote all
-pub wrote-then : (s t u : Sheet) (a b : List Op) (r : Result (Unit {0}) Full) → limitsOf t ≡ limitsOf s → contentOf t ≡ applies (contentOf s) a → Wrote t b u r → Wrote s (a ++ b) u r
-wrote-then s t u a b (Ok x) l e w = (w .0 ∙ l, w .1 ∙ ap (λ (c : Content). applies c b) e ∙ sym (applies-++ (contentOf s) a b))
-wrote-then s t u a b (Err x) l e w = (
+pub wrote-then : (s t u : Sheet) (a b : List Op) (r : Result (Unit {0}) Full) → Wrote s a t (Ok tt) → Wrote t b u r → Wrote s (a ++ b) u r
+wrote-then s t u a b (Ok x) (l, e) w = (w .0 ∙ l, w .1 ∙ ap (λ (c : Content). applies c b) e ∙ sym (applies-++ (contentOf s) a b))
+wrote-then s t u a b (Err x) (l, e) w = (
   w .0 ∙ l,
   subst (λ (c : Content). Over (limitsOf s) c) (ap (λ (c : Content). applies c b) e ∙ sym (applies-++ (contentOf s) a b))
       (subst (λ (m : Limits). Over m (applies (contentOf t) b)) l (w .1)),
@@ -41,24 +41,21 @@ pub wrote-one : (s t : Sheet) (op : Op) (r : Result (Unit {0}) Full) → Put s o
 wrote-one s t op r w = (w .0, w .1)
 
 -- a refusal that is passed on, with more behind it
-pub wrote-stop : (s t : Sheet) (a b : List Op) (r : Result (Unit {0}) Full) → isErr r ≡ true → limitsOf t ≡ limitsOf s → Over (limitsOf s) (applies (contentOf s) a) → Wrote s (a ++ b) t r
-wrote-stop s t a b (Ok x) e l h = let z : _≡_ {A = ℕ} 0 1 = cc in absurd (omega arith)
-wrote-stop s t a b (Err x) e l h = (l, over-more (limitsOf s) (contentOf s) a b h)
+pub wrote-stop : (s t : Sheet) (a b : List Op) (r : Result (Unit {0}) Full) → isErr r ≡ true → (limitsOf t ≡ limitsOf s) × Over (limitsOf s) (applies (contentOf s) a) → Wrote s (a ++ b) t r
+wrote-stop s t a b (Ok x) e h = let z : _≡_ {A = ℕ} 0 1 = cc in absurd (omega arith)
+wrote-stop s t a b (Err x) e (l, h) = (l, over-more (limitsOf s) (contentOf s) a b h)
 
 -- a tree of another name
 pub wrote-tree : (s v : Sheet) (t u : Meta) (r : Result (Unit {0}) Full) → t ≡ u → Wrote s (spell (reading u)) v r → Wrote s (spell (reading t)) v r
 wrote-tree s v t u r e w = wrote-as s v (spell (reading t)) (spell (reading u)) r (ap (λ (x : Meta). spell (reading x)) e) w
 
--- a tree between two texts
-pub wrote-between : (s v w x : Sheet) (before behind : Op) (ops : List Op) (r : Result (Unit {0}) Full) → Put s before v (Ok tt) → Wrote v ops w (Ok tt) → Put w behind x r → Wrote s (before ∷ (ops ++ behind ∷ [])) x r
-wrote-between s v w x before behind ops r a b z =
-    wrote-then s v x (before ∷ []) (ops ++ behind ∷ []) r (a .0) (a .1)
-    (wrote-then v w x ops (behind ∷ []) r (b .0) (b .1) (wrote-one w x behind r z))
+-- three writers behind each other
+pub wrote-three : (s t u v : Sheet) (a b d : List Op) (r : Result (Unit {0}) Full) → Wrote s a t (Ok tt) → Wrote t b u (Ok tt) → Wrote u d v r → Wrote s (a ++ (b ++ d)) v r
+wrote-three s t u v a b d r f g h = wrote-then s t v a (b ++ d) r f (wrote-then t u v b d r g h)
 
--- where the tree is refused
-pub stopped-between : (s v w : Sheet) (before behind : Op) (ops : List Op) (r : Result (Unit {0}) Full) → isErr r ≡ true → Put s before v (Ok tt) → (limitsOf w ≡ limitsOf v) × Over (limitsOf v) (applies (contentOf v) ops) → Wrote s (before ∷ (ops ++ behind ∷ [])) w r
-stopped-between s v w before behind ops r e a b =
-    wrote-then s v w (before ∷ []) (ops ++ behind ∷ []) r (a .0) (a .1) (wrote-stop v w ops (behind ∷ []) r e (b .0) (b .1))
+-- where the second of three is refused
+pub stopped-second : (s t u : Sheet) (a b d : List Op) (r : Result (Unit {0}) Full) → isErr r ≡ true → Wrote s a t (Ok tt) → (limitsOf u ≡ limitsOf t) × Over (limitsOf t) (applies (contentOf t) b) → Wrote s (a ++ (b ++ d)) u r
+stopped-second s t u a b d r e f g = wrote-then s t u a (b ++ d) r f (wrote-stop t u b d r e g)
 
 -- the same note
 pub doc-as : (a b : Store) (m n : ℕ) → a ≡ b → m ≡ n → doc (or-else (at (notesIn a) m) noNote) ≡ doc (or-else (at (notesIn b) n) noNote)

@@ -1,5 +1,5 @@
 -- Rows of trees, from their last tree.
-use Prim.Native.Nat.{ℕ, suc}
+use Prim.Native.Nat.{ℕ, suc, _≤_}
 use mathlib.Core.Path.{_≡_, refl, sym, _∙_, ap}
 use mathlib.Core.List.{List, [], _++_, append-assoc}
 use native.Mathlib.Omega.{arith}
@@ -51,9 +51,9 @@ rest-last e (more t us) u =
     ∙ sym (append-assoc (elementOps e) (spell (then (reading t) (joinedRest e us))) (elementOps e ++ spell (reading u)))
 
 -- a row of several, as those before the last, the element between, and the last
-pub joined-last : (e : Element) (us : Metas) (u : Meta) (n : ℕ) → len us ≡ suc n → spell (joined e (with-last us u)) ≡ spell (joined e us) ++ (elementOps e ++ spell (reading u))
-joined-last e none u n l = absurd (omega arith)
-joined-last e (more t us) u n l =
+pub joined-last : (e : Element) (us : Metas) (u : Meta) → 1 ≤ len us → spell (joined e (with-last us u)) ≡ spell (joined e us) ++ (elementOps e ++ spell (reading u))
+joined-last e none u l = absurd (omega arith)
+joined-last e (more t us) u l =
     spell-then (reading t) (joinedRest e (with-last us u))
     ∙ ap (λ (ops : List Op). spell (reading t) ++ ops) (rest-last e us u)
     ∙ sym (append-assoc (spell (reading t)) (spell (joinedRest e us)) (elementOps e ++ spell (reading u)))
@@ -70,11 +70,11 @@ joined-none e none l = refl
 joined-none e (more t us) l = absurd (omega arith)
 
 -- a row of several, as its parts are written out
-pub spelled-more : (e : Element) (ts : Metas) (q : Parted ts) (n : ℕ) → len ts ≡ suc (suc n) → spell (joined e ts) ≡ spell (joined e (q .front)) ++ (elementOps e ++ spell (reading (q .last)))
-spelled-more e ts q n l =
+pub spelled-more : (e : Element) (ts : Metas) (q : Parted ts) → 2 ≤ len ts → spell (joined e ts) ≡ spell (joined e (q .front)) ++ (elementOps e ++ spell (reading (q .last)))
+spelled-more e ts q l =
     let c = q .count in
-    let k : len (q .front) ≡ suc n = omega arith in
-    ap (λ (us : Metas). spell (joined e us)) (q .is) ∙ joined-last e (q .front) (q .last) n k
+    let k : 1 ≤ len (q .front) = omega arith in
+    ap (λ (us : Metas). spell (joined e us)) (q .is) ∙ joined-last e (q .front) (q .last) k
 
 pub spelled-one : (e : Element) (ts : Metas) (q : Parted ts) → len ts ≡ 1 → spell (joined e ts) ≡ spell (reading (q .last))
 spelled-one e ts q l =

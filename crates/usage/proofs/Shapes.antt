@@ -11,7 +11,7 @@ use Rattle.normal.specs.Bench.{Top, Entry, len, seal, post, posts, topOf, entry
 use Rattle.normal.specs.declared.bench.Form.{Form}
 use Rattle.normal.specs.declared.bench.Normal.{Normal}
 use Rattle.normal.proofs.Tops.{length-entries, entries-getD}
-use Rattle.usage.specs.Standing.{Ends, TreeAt, RowTo}
+use Rattle.usage.specs.Standing.{Ends, TreeAt, RowTo, sizeAt}
 use Rattle.usage.proofs.Rows.{Parted, parted, posts-last}
 
 abbrev pub topOfTree : Meta → Top
@@ -205,33 +205,40 @@ child p ns at d f t b e h =
       tree = tree-before (entries p ns) at (inside t) k;
     }
 
--- the last tree of a row, and the row before it
-pub record Split (es : List Entry) (end : ℕ) (ts : Metas) : Type 0 where
+-- the last tree of a row, and the row before it, by the size that the last tree's top tells
+pub record Split (p : Plain) (ns : List Normal) (end before : ℕ) (ts : Metas) (n : ℕ) : Type 0 where
   pub parts : Parted ts
+  pub count : len (parts .front) ≡ n
   pub some : 1 ≤ end
-  pub fits : length (post (parts .last)) ≤ end
-  pub least : 1 ≤ length (post (parts .last))
-  pub tree : TreeAt es (end - 1) (parts .last)
-  pub row : RowTo es (end - length (post (parts .last))) (parts .front)
+  pub within : end ≤ length ns
+  pub least : 1 ≤ sizeAt ns (end - 1)
+  pub fits : sizeAt ns (end - 1) ≤ end
+  pub tree : TreeAt (entries p ns) (end - 1) (parts .last)
+  pub row : RowTo (entries p ns) before (parts .front)
 
-pub split : (es : List Entry) (end : ℕ) (ts : Metas) (n : ℕ) → len ts ≡ suc n → RowTo es end ts → Split es end ts
-split es end ts n e (before, is, within) =
+pub split : (p : Plain) (ns : List Normal) (end before : ℕ) (ts : Metas) (n : ℕ) → before ≡ end - sizeAt ns (end - 1) → len ts ≡ suc n → RowTo (entries p ns) end ts → Split p ns end before ts n
+split p ns end before ts n s e (front, is, within) =
     let q = parted ts n e in
+    let c = q .count in
     let u = q .last in
-    let front = before ++ posts (q .front) in
-    let f : take end es ≡ front ++ post u =
-    is ∙ ap (λ (us : Metas). before ++ posts us) (q .is) ∙ ap (λ (xs : List Entry). before ++ xs) (posts-last (q .front) u)
-    ∙ sym (append-assoc before (posts (q .front)) (post u)) in
-    let h : Ends es end (post u) = (front, f, within) in
-    let l : length front + length (post u) ≡ end = ends-length es (post u) end h in
+    let es = entries p ns in
+    let f : take end es ≡ (front ++ posts (q .front)) ++ post u =
+    is ∙ ap (λ (us : Metas). front ++ posts us) (q .is) ∙ ap (λ (xs : List Entry). front ++ xs) (posts-last (q .front) u)
+    ∙ sym (append-assoc front (posts (q .front)) (post u)) in
+    let h : Ends es end (post u) = (front ++ posts (q .front), f, within) in
+    let tree = tree-before es end u h in
+    let z : sizeAt ns (end - 1) ≡ length (post u) = size-at p ns (end - 1) _ u tree in
+    let l : length (front ++ posts (q .front)) + length (post u) ≡ end = ends-length es (post u) end h in
     let m = post-length u in
-    let k : length front ≡ end - length (post u) = omega arith in
-    let b : end - length (post u) ≤ end = omega arith in
+    let k : length (front ++ posts (q .front)) ≡ before = omega arith in
+    let b : before ≤ end = omega arith in
     record {
       parts = q;
+      count = omega arith;
       some = some-before es end u h;
-      fits = omega arith;
+      within = within-nodes p ns end (post u) h;
       least = omega arith;
-      tree = tree-before es end u h;
-      row = (before, sym (take-take (end - length (post u)) end es b) ∙ ap (take (end - length (post u))) f ∙ take-at front (post u) (end - length (post u)) k, omega arith);
+      fits = omega arith;
+      tree = tree;
+      row = (front, sym (take-take before end es b) ∙ ap (take before) f ∙ take-at (front ++ posts (q .front)) (post u) before k, omega arith);
     }

@@ -1,4 +1,4 @@
 pub mod Standing
-pub mod Joins
+pub mod Signs
 pub mod Left
 pub mod Lossless

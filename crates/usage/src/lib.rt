@@ -1,5 +1,6 @@
 // The usage line of a root: its normal form, written on a sheet.
 mod line;
+mod signs;
 pub mod usage;
 mod words;
 mod write;

@@ -15,16 +15,14 @@ returns-in-Break-begin c =
 pub returns-in-Break-write-meta : need.returns-in-Break-write-meta
 returns-in-Break-write-meta c =
     λ u h.
-    let w = c .in-Break-write-meta .ensures tt u h in
     anew-then (c .args .sheet .now) (c .begin .last .sheet) (c .write-meta .last .sheet) (Tok (Start B.Mono) ∷ []) (spell (reading u) ++ Tok (End B.Mono) ∷ []) (c .from-residual-in-Break-write-meta .result)
     (c .in-Continue-begin .ensures tt)
-    (wrote-stop (c .begin .last .sheet) (c .write-meta .last .sheet) (spell (reading u)) (Tok (End B.Mono) ∷ []) (c .from-residual-in-Break-write-meta .result) (c .from-residual-in-Break-write-meta .ensures .0) (w .0) (w .1))
+    (wrote-stop (c .begin .last .sheet) (c .write-meta .last .sheet) (spell (reading u)) (Tok (End B.Mono) ∷ []) (c .from-residual-in-Break-write-meta .result) (c .from-residual-in-Break-write-meta .ensures .0) (c .in-Break-write-meta .ensures tt u h))
 
 pub returns : need.returns
 returns c =
     λ u h.
-    let w = c .in-Continue-write-meta .ensures tt u h in
     anew-then (c .args .sheet .now) (c .begin .last .sheet) (c .block-end .last .self) (Tok (Start B.Mono) ∷ []) (spell (reading u) ++ Tok (End B.Mono) ∷ []) (c .block-end .result)
     (c .in-Continue-begin .ensures tt)
-    (wrote-then (c .begin .last .sheet) (c .write-meta .last .sheet) (c .block-end .last .self) (spell (reading u)) (Tok (End B.Mono) ∷ []) (c .block-end .result) (w .0) (w .1)
+    (wrote-then (c .begin .last .sheet) (c .write-meta .last .sheet) (c .block-end .last .self) (spell (reading u)) (Tok (End B.Mono) ∷ []) (c .block-end .result) (c .in-Continue-write-meta .ensures tt u h)
     (wrote-one _ _ (Tok (End B.Mono)) _ (c .block-end .ensures)))
