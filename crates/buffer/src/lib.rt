@@ -1,4 +1,6 @@
 // Styled text: tokens, the store of notes, and the sheet that lines and pages are written on.
+#![tactic(auto)]
+
 pub mod check;
 mod doc;
 mod mark;

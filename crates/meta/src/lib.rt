@@ -1,4 +1,5 @@
 // Command trees: records, items, and the book that holds them.
+#![tactic(auto)]
 pub mod book;
 mod decode;
 mod examine;

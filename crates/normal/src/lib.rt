@@ -1,4 +1,5 @@
 // The normal form of a command tree, on a bench.
+#![tactic(auto)]
 pub mod bench;
 mod form;
 mod name;
