@@ -87,7 +87,7 @@ impl Sheet {
     // Writes tokens and bytes as they are.
     pub(crate) fn raw(&mut self, tokens: &[Token], bytes: &[u8]) -> Result<(), Full>
         requires { sizes (map token_of tokens.now) ≡ length bytes.now }
-        ensures { Put self.old (raw (record { tokens = map token_of tokens.entry.now; bytes = bytes.now })) self.new result }
+        ensures { Put self.old (raw (record { tokens = map token_of tokens.now; bytes = bytes.now })) self.new result }
     {
         if tokens.len() > self.max_tokens - self.tokens.len() {
             return Err(Full);

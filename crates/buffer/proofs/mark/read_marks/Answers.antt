@@ -18,7 +18,7 @@ returns-in-None c =
 pub loop-i-preserved : goal.loop-i-preserved
 loop-i-preserved c =
     let h : c.loop-i.i * 4 + 3 < length c.args.bytes.now = omega arith in
-    reads_more c.args.bytes.now c.loop-i.i (c.loop-i.i * 4) (vec_items c.loop-i.marks) _ refl c.loop-i.invariant c.in-Some.mark (vec_items c.push.new.self) h c.in-Some.ensures c.in-ok-push.ensures.items
+    reads_more c.args.bytes.now c.loop-i.i (c.loop-i.i * 4) (vec_items c.loop-i.marks) _ refl c.loop-i.invariant c.in-Some.mark (vec_items c.push.new.self) h c.in-Some.ensures c.in_ok-push-in-Some.ensures.items
 
 pub returns : goal.returns
 returns c =

@@ -10,7 +10,7 @@ returns-in-Some c =
     let ts = c.deref.result.now in
     let item = c.in-Some.ensures.item in
     let l : length ts ≡ suc (length ts - 1) = omega (arith, item.3.0) in
-    c.len-in.ensures ∙ end_len_of ts (length ts - 1) c.in-Some.t.now (style_of c.args.style) l item.1
+    c.len_in.ensures ∙ end_len_of ts (length ts - 1) c.in-Some.t.now (style_of c.args.style) l item.1
     ∙ ap (λ xs. end_len (map token_of xs) (style_of c.args.style)) c.deref.ensures.value
 
 pub returns-in-None : goal.returns-in-None

@@ -6,18 +6,18 @@ use Rattle.buffer.specs.Tokens.{style_of, token_of}
 use Rattle.buffer.proofs.Growth.{extend-some, extend-none, end_len-some, tokens_append}
 use Rattle.buffer.proofs.write.lengthen.Goals as goal
 
-pub overflow-sub-last : goal.overflow-sub-last
-overflow-sub-last c =
+pub overflow_sub-last : goal.overflow_sub-last
+overflow_sub-last c =
     let h = end_len-some (map token_of c.args.tokens.now.items) (style_of c.args.style) c.in-Some.bytes c.in-Some.ensures in
     omega (arith, c.args.tokens.now.ok.0, length-map c.args.tokens.now.items token_of)
 
-pub overflow-add-bytes : goal.overflow-add-bytes
-overflow-add-bytes c =
+pub overflow_add-bytes : goal.overflow_add-bytes
+overflow_add-bytes c =
     let h = end_len-some (map token_of c.args.tokens.now.items) (style_of c.args.style) c.in-Some.bytes c.in-Some.ensures in
     omega arith
 
-pub index-mut-requires : goal.index-mut-requires
-index-mut-requires c =
+pub index_mut-requires : goal.index_mut-requires
+index_mut-requires c =
     let h = end_len-some (map token_of c.args.tokens.now.items) (style_of c.args.style) c.in-Some.bytes c.in-Some.ensures in
     omega (arith, c.args.tokens.now.ok.0, length-map c.args.tokens.now.items token_of)
 
@@ -38,4 +38,4 @@ pub returns-else-len-most : goal.returns-else-len-most
 returns-else-len-most c =
     let ts = map token_of c.args.tokens.now.items in
     let e = extend-none ts (style_of c.args.style) c.args.n c.in-None.ensures in
-    (tokens_append c.args.tokens.now.items c.push-reserved.new.self.items (Text c.args.n c.args.style ∷ []) c.push-reserved.ensures.items ∙ sym e, c.push-reserved.ensures.capacity, omega arith)
+    (tokens_append c.args.tokens.now.items c.push_reserved.new.self.items (Text c.args.n c.args.style ∷ []) c.push_reserved.ensures.items ∙ sym e, c.push_reserved.ensures.capacity, omega arith)

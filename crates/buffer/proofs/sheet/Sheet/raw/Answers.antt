@@ -23,11 +23,11 @@ returns-then-bytes-self c =
     let n : Note = record { tokens = map token_of c.args.tokens.now; bytes = c.args.bytes.now } in
     (refl, raw_over_bytes (limits_of s) (content_of s) n (omega (arith, s.bytes.ok.0)), refl)
 
-pub invariant-of-self : goal.invariant-of-self
-invariant-of-self c =
+pub invariant_of-self : goal.invariant_of-self
+invariant_of-self c =
     let s = c.args.self.now in
-    let k = c.extend-from-slice.ensures.succeeds (omega (arith, s.tokens.ok.0)) in
-    let e = tokens_append s.tokens.items c.extend-from-slice.new.self.items c.args.tokens.now (rw k at c.extend-from-slice.ensures.items) in
+    let k = c.extend_from_slice.ensures.succeeds (omega (arith, s.tokens.ok.0)) in
+    let e = tokens_append s.tokens.items c.extend_from_slice.new.self.items c.args.tokens.now (rw k at c.extend_from_slice.ensures.items) in
     let z = ap sizes e ∙ sizes-append (map token_of s.tokens.items) (map token_of c.args.tokens.now) in
     search rules
 
@@ -35,6 +35,6 @@ pub returns : goal.returns
 unfolding apply content_of limits_of
 returns c =
     let s = c.args.self.now in
-    let k = c.extend-from-slice.ensures.succeeds (omega (arith, s.tokens.ok.0)) in
-    let e = tokens_append s.tokens.items c.extend-from-slice.new.self.items c.args.tokens.now (rw k at c.extend-from-slice.ensures.items) in
+    let k = c.extend_from_slice.ensures.succeeds (omega (arith, s.tokens.ok.0)) in
+    let e = tokens_append s.tokens.items c.extend_from_slice.new.self.items c.args.tokens.now (rw k at c.extend_from_slice.ensures.items) in
     search rules

@@ -3,8 +3,8 @@ use Rattle.rules.specs.Notes.{Note, sizes}
 use Rattle.buffer.proofs.Numbered.{sized, absent, within_tokens, tokens_are}
 use Rattle.buffer.proofs.store.Store.tokens.Goals as goal
 
-pub slice-bounds-result-end : goal.slice-bounds-result-end
-slice-bounds-result-end c =
+pub slice_bounds-result-end : goal.slice_bounds-result-end
+slice_bounds-result-end c =
     let l : c.args.note < length (vec_items c.args.self.now.places) = omega arith in
     let h = within_tokens c.args.self.now c.args.note c.index.result.now l c.index.ensures in
     search rules
@@ -13,7 +13,7 @@ pub returns-then-note-len : goal.returns-then-note-len
 returns-then-note-len c =
     let l : c.args.note < length (vec_items c.args.self.now.places) = omega arith in
     let k : c.index.result.now.tokens.first + c.index.result.now.tokens.count - c.index.result.now.tokens.first ≡ c.index.result.now.tokens.count = omega arith in
-    let v = tokens_are c.args.self.now c.args.note _ c.index.result.now c.as-slice.result.now l c.index.ensures k c.as-slice.ensures.value in
+    let v = tokens_are c.args.self.now c.args.note _ c.index.result.now c.as_slice.result.now l c.index.ensures k c.as_slice.ensures.value in
     record { value = v; len = ap sizes v ∙ sized c.args.self.now c.args.note }
 
 pub returns-else-note-len : goal.returns-else-note-len
