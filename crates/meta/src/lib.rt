@@ -1,5 +1,6 @@
 // Command trees: records, items, and the book that holds them.
 #![tactic(auto)]
+
 pub mod book;
 mod decode;
 mod examine;

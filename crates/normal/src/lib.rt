@@ -1,5 +1,6 @@
 // The normal form of a command tree, on a bench.
 #![tactic(auto)]
+
 pub mod bench;
 mod form;
 mod name;

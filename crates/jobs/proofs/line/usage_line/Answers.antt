@@ -7,6 +7,6 @@ use Rattle.jobs.proofs.line.usage_line.Goals as goal
 pub returns : goal.returns
 returns c = record {
   made = line_job_lem c.args.marks.now c.args.text.now c.args.records.now
-      (plain_of c.in-ok-book.book) c.in-ok-bench.bench.places (limits_of c.in-ok-sheet.sheet) (seen c.last-line.result)
-      c.in-ok-book.ensures c.in-ok-bench.ensures.1 c.in-ok-sheet.ensures.made.1 c.last-line.ensures;
+      (plain_of c.in_ok-book.book) c.in_ok-bench.bench.places (limits_of c.in_ok-sheet.sheet) (seen c.last_line.result)
+      c.in_ok-book.ensures c.in_ok-bench.ensures.1 c.in_ok-sheet.ensures.made.1 c.last_line.ensures;
 }

@@ -6,7 +6,7 @@ use Rattle.meta.proofs.words.word_of.Goals as goal
 
 pub returns : goal.returns
 returns c =
-    let e : c.word-len.result - 0 ≡ length (word_of c.args.bytes.now) = omega arith in
+    let e : c.word_len.result - 0 ≡ length (word_of c.args.bytes.now) = omega arith in
     record {
       value = ap (λ (n : ℕ). take n c.args.bytes.now) e ∙ word_front c.args.bytes.now;
       bound = search (rules, length-take);

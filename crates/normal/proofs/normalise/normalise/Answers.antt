@@ -8,20 +8,20 @@ use Rattle.normal.specs.Held.{held}
 use Rattle.normal.proofs.Rooms.{few, room, no_row, post_some, tree-last, as_many}
 use Rattle.normal.proofs.normalise.normalise.Goals as goal
 
-pub overflow-mul-len : goal.overflow-mul-len
-overflow-mul-len c =
+pub overflow_mul-len : goal.overflow_mul-len
+overflow_mul-len c =
     let h = few c.args.book.now in
     let k : c.len-2.result ≤ 256 = omega arith in
     search rules
 
-pub overflow-add-len : goal.overflow-add-len
-overflow-add-len c =
+pub overflow_add-len : goal.overflow_add-len
+overflow_add-len c =
     let h = few c.args.book.now in
     let k : c.len-2.result ≤ 256 = omega arith in
     search rules
 
-pub overflow-cast-root : goal.overflow-cast-root
-overflow-cast-root c =
+pub overflow_cast-root : goal.overflow_cast-root
+overflow_cast-root c =
     let h = few c.args.book.now in
     let k : c.args.root < 256 = omega arith in
     search rules
@@ -33,9 +33,9 @@ fill-requires c =
     let enough : 3 * length (plain_of b).nodes + 2 ≤ c.args.bench.now.places = omega arith in
     record { within = within; room = room b c.args.root c.args.bench.now.places within enough }
 
-pub overflow-sub-result : goal.overflow-sub-result
-overflow-sub-result c =
-    let t = normal c.args.for-usage (tree_at (plain_of c.args.book.now) c.args.root) in
+pub overflow_sub-result : goal.overflow_sub-result
+overflow_sub-result c =
+    let t = normal c.args.for_usage (tree_at (plain_of c.args.book.now) c.args.root) in
     let long = as_many (plain_of c.args.book.now) _ c.nodes.result.now t c.nodes.ensures c.fill.ensures.value in
     omega (arith, long, post_some t)
 
@@ -43,7 +43,7 @@ pub returns : goal.returns
 returns c =
     let b = c.args.book.now in
     let p = plain_of b in
-    let t = normal c.args.for-usage (tree_at p c.args.root) in
+    let t = normal c.args.for_usage (tree_at p c.args.root) in
     let within : c.args.root < length p.nodes = omega arith in
     let enough : 3 * length p.nodes + 2 ≤ c.args.bench.now.places = omega arith in
     let long : length c.nodes.result.now ≡ length (post t) = as_many p _ c.nodes.result.now t c.nodes.ensures c.fill.ensures.value in

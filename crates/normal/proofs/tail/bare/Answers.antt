@@ -15,19 +15,19 @@ returns-in-Or c = record {
   same = search rules;
 }
 
-pub returns-in-default-second : goal.returns-in-default-second
-returns-in-default-second c = record {
+pub returns-in_default-second : goal.returns-in_default-second
+returns-in_default-second c = record {
   value = λ p bs t e.
       let x = is_required t (c.in-Required.ensures p bs t e) in
       let ex = e ∙ ap (λ (u : Meta). bs ++ post u) x in
-      c.lift.ensures.value p bs (post (inside t)) _ ex ∙ ap (λ (u : Meta). bs ++ post u) (sym (ap bare x ∙ bare_else (inside t) _ (c.second.ensures p bs (inside t) _ ex) c.in-default-second.not-Or));
+      c.lift.ensures.value p bs (post (inside t)) _ ex ∙ ap (λ (u : Meta). bs ++ post u) (sym (ap bare x ∙ bare_else (inside t) _ (c.second.ensures p bs (inside t) _ ex) c.in_default-second.not-Or));
   bound = search rules;
   same = search rules;
 }
 
-pub returns-in-default : goal.returns-in-default
-returns-in-default c = record {
-  value = λ p bs t e. e ∙ ap (λ (u : Meta). bs ++ post u) (sym (bare_rest t _ (c.top.ensures p bs t e) c.in-default.not-Required));
+pub returns-in_default : goal.returns-in_default
+returns-in_default c = record {
+  value = λ p bs t e. e ∙ ap (λ (u : Meta). bs ++ post u) (sym (bare_rest t _ (c.top.ensures p bs t e) c.in_default.not-Required));
   bound = search rules;
   same = search rules;
 }

@@ -21,10 +21,10 @@ returns-in-1 c = record {
   same = search rules;
 }
 
-pub returns-in-default : goal.returns-in-default
-returns-in-default c = record {
+pub returns-in_default : goal.returns-in_default
+returns-in_default c = record {
   value = λ p bs ts e l k. let h : 2 ≤ len ts = omega (arith, k) in
-      c.put-in-default.ensures.value p bs (posts ts) e l ∙ ap (λ (n : ℕ). bs ++ seal Top.and n (posts ts)) k ∙ ap (λ (u : Meta). bs ++ post u) (sym (two_are ts h).0);
+      c.put-in_default.ensures.value p bs (posts ts) e l ∙ ap (λ (n : ℕ). bs ++ seal Top.and n (posts ts)) k ∙ ap (λ (u : Meta). bs ++ post u) (sym (two_are ts h).0);
   len = search rules;
   same = search rules;
 }

@@ -21,11 +21,11 @@ returns-in-1 c = record {
   same = search rules;
 }
 
-pub returns-in-default : goal.returns-in-default
-returns-in-default c = record {
+pub returns-in_default : goal.returns-in_default
+returns-in_default c = record {
   value = λ p bs ts e l k. let h : 2 ≤ len ts = omega (arith, k) in
-      let f = c.put-in-default.ensures.value p bs (posts ts) e l ∙ ap (λ (n : ℕ). bs ++ seal Top.or n (posts ts)) k in
-      c.put-in-default-2.ensures.value p bs (seal Top.or (len ts) (posts ts)) f l ∙ ap (λ (u : Meta). bs ++ post u) (sym (two_are ts h).1);
+      let f = c.put-in_default.ensures.value p bs (posts ts) e l ∙ ap (λ (n : ℕ). bs ++ seal Top.or n (posts ts)) k in
+      c.put-in_default-2.ensures.value p bs (seal Top.or (len ts) (posts ts)) f l ∙ ap (λ (u : Meta). bs ++ post u) (sym (two_are ts h).1);
   len = search rules;
   same = search rules;
 }

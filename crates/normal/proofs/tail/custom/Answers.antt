@@ -11,7 +11,7 @@ returns-then-blank c = record {
   value = λ p bs t e l b.
       let cut = cut_off p (vec_items c.args.bench.now) _ _ bs (post t) c.truncate.ensures.items e l in
       let f = c.put.ensures.value p bs [] (cut ∙ sym (append-nil bs)) l in
-      f ∙ ap₂ (λ (u n : Bool). bs ++ post (cond u (cond n Meta.skip (Meta.custom_usage t (note_numbered p c.args.note))) t)) (sym c.if-not-for-usage.false) (sym c.if-blank.true ∙ b);
+      f ∙ ap₂ (λ (u n : Bool). bs ++ post (cond u (cond n Meta.skip (Meta.custom_usage t (note_numbered p c.args.note))) t)) (sym c.if-not-for_usage.false) (sym c.if-blank.true ∙ b);
   len = search rules;
   same = search rules;
 }

@@ -11,9 +11,9 @@ returns-in-Skip c = record {
   same = search rules;
 }
 
-pub returns-in-default : goal.returns-in-default
-returns-in-default c = record {
-  value = λ p bs t e l. c.put.ensures.value p bs (post t) e l ∙ ap (λ (u : Meta). bs ++ post u) (sym (many_rest t _ (c.top.ensures p bs t e) c.in-default.not-Skip));
+pub returns-in_default : goal.returns-in_default
+returns-in_default c = record {
+  value = λ p bs t e l. c.put.ensures.value p bs (post t) e l ∙ ap (λ (u : Meta). bs ++ post u) (sym (many_rest t _ (c.top.ensures p bs t e) c.in_default.not-Skip));
   len = search rules;
   same = search rules;
 }

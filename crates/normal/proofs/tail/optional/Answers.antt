@@ -37,20 +37,20 @@ returns-in-Required-second c = record {
   same = search rules;
 }
 
-pub returns-in-default-second : goal.returns-in-default-second
-returns-in-default-second c = record {
+pub returns-in_default-second : goal.returns-in_default-second
+returns-in_default-second c = record {
   value = λ p bs t e l.
       let x = is_many t (c.in-Many.ensures p bs t e) in
       let ex = e ∙ ap (λ (u : Meta). bs ++ post u) x in
-      let n = optional_many (inside t) _ (c.second.ensures p bs (inside t) _ ex) c.in-default-second.not-Required in
-      c.put-in-default-second.ensures.value p bs (post t) e l ∙ ap (λ (u : Meta). bs ++ post u) (sym (ap optional_of x ∙ n ∙ ap Meta.optional (sym x)));
+      let n = optional_many (inside t) _ (c.second.ensures p bs (inside t) _ ex) c.in_default-second.not-Required in
+      c.put-in_default-second.ensures.value p bs (post t) e l ∙ ap (λ (u : Meta). bs ++ post u) (sym (ap optional_of x ∙ n ∙ ap Meta.optional (sym x)));
   len = search rules;
   same = search rules;
 }
 
-pub returns-in-default : goal.returns-in-default
-returns-in-default c = record {
-  value = λ p bs t e l. c.put-in-default.ensures.value p bs (post t) e l ∙ ap (λ (u : Meta). bs ++ post u) (sym (optional_rest t _ (c.top.ensures p bs t e) c.in-default.not-Skip c.in-default.not-Optional c.in-default.not-Required c.in-default.not-Many));
+pub returns-in_default : goal.returns-in_default
+returns-in_default c = record {
+  value = λ p bs t e l. c.put-in_default.ensures.value p bs (post t) e l ∙ ap (λ (u : Meta). bs ++ post u) (sym (optional_rest t _ (c.top.ensures p bs t e) c.in_default.not-Skip c.in_default.not-Optional c.in_default.not-Required c.in_default.not-Many));
   len = search rules;
   same = search rules;
 }

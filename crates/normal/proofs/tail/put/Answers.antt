@@ -4,7 +4,7 @@ use Rattle.normal.proofs.tail.put.Goals as goal
 
 pub returns : goal.returns
 returns c = record {
-  value = λ p bs body e l. sealed_up p _ _ _ bs body c.push-reserved.ensures.items e (let h : length (vec_items c.args.bench.now) ≡ length bs + length body = sym (length-entries p _) ∙ ap length e ∙ length-append bs body in omega (arith, h, c.args.bench.now.ok.0));
+  value = λ p bs body e l. sealed_up p _ _ _ bs body c.push_reserved.ensures.items e (let h : length (vec_items c.args.bench.now) ≡ length bs + length body = sym (length-entries p _) ∙ ap length e ∙ length-append bs body in omega (arith, h, c.args.bench.now.ok.0));
   len = search rules;
   same = search rules;
 }

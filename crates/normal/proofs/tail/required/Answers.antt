@@ -11,9 +11,9 @@ returns-in-And c = record {
   same = search rules;
 }
 
-pub returns-in-default : goal.returns-in-default
-returns-in-default c = record {
-  value = λ p bs t e l. e ∙ ap (λ (u : Meta). bs ++ post u) (sym (required_rest t _ (c.top.ensures p bs t e) c.in-default.not-And c.in-default.not-Or));
+pub returns-in_default : goal.returns-in_default
+returns-in_default c = record {
+  value = λ p bs t e l. e ∙ ap (λ (u : Meta). bs ++ post u) (sym (required_rest t _ (c.top.ensures p bs t e) c.in_default.not-And c.in_default.not-Or));
   len = search rules;
   same = search rules;
 }

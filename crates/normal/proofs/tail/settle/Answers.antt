@@ -11,7 +11,7 @@ returns c = record {
   value = λ p bs t e l.
       let k = c.top-form.ensures p bs t e in
       let s : false ≡ stays c.args.seen t = c.if-stays.ensures ∙ ap (λ (j : Kind). not (K.is K.skip j) && not (c.args.seen && K.is K.command j)) k in
-      (goes_so bs _ t c.args.seen (cut_off p (vec_items c.args.bench.now) _ _ bs (post t) c.truncate.ensures.items e l) (sym s), s, c.sees-seen-after.ensures ∙ ap (λ (j : Kind). c.args.seen || K.is K.command j) k);
+      (goes_so bs _ t c.args.seen (cut_off p (vec_items c.args.bench.now) _ _ bs (post t) c.truncate.ensures.items e l) (sym s), s, c.sees-seen_after.ensures ∙ ap (λ (j : Kind). c.args.seen || K.is K.command j) k);
   bound = search rules;
   same = search rules;
 }

@@ -7,28 +7,28 @@ use Rattle.rules.specs.Weight.{weights}
 use Rattle.meta.specs.View.{plain_of}
 use Rattle.normal.proofs.walk.+and_row_or_row_walk.Given as goal
 
-abbrev pub decreases-and-row : goal.decreases-and-row
-decreases-and-row l = 2 * l.n
+abbrev pub decreases-and_row : goal.decreases-and_row
+decreases-and_row l = 2 * l.n
 
-abbrev pub decreases-or-row : goal.decreases-or-row
-decreases-or-row l = 2 * l.n
+abbrev pub decreases-or_row : goal.decreases-or_row
+decreases-or_row l = 2 * l.n
 
 abbrev pub decreases-walk : goal.decreases-walk
 decreases-walk l = 2 * l.n + 1
 
-abbrev pub invariant-and-row-loop-child : goal.invariant-and-row-loop-child
-invariant-and-row-loop-child l =
-    (entries (plain_of l.book) (vec_items l.bench) ++ posts (no_skips (ands (row_at (plain_of l.book) (drop l.child-index l.children)) l.for-usage (mark_of l.run)).kept) ≡ entries (plain_of l.book) (vec_items l.initial.bench) ++ posts (no_skips (ands (row_at (plain_of l.book) l.children) l.for-usage (mark_of l.mark)).kept))
-    × (l.held + len (no_skips (ands (row_at (plain_of l.book) (drop l.child-index l.children)) l.for-usage (mark_of l.run)).kept) ≡ len (no_skips (ands (row_at (plain_of l.book) l.children) l.for-usage (mark_of l.mark)).kept))
+abbrev pub invariant-and_row-loop-child : goal.invariant-and_row-loop-child
+invariant-and_row-loop-child l =
+    (entries (plain_of l.book) (vec_items l.bench) ++ posts (no_skips (ands (row_at (plain_of l.book) (drop l.child-index l.children)) l.for_usage (mark_of l.run)).kept) ≡ entries (plain_of l.book) (vec_items l.initial.bench) ++ posts (no_skips (ands (row_at (plain_of l.book) l.children) l.for_usage (mark_of l.mark)).kept))
+    × (l.held + len (no_skips (ands (row_at (plain_of l.book) (drop l.child-index l.children)) l.for_usage (mark_of l.run)).kept) ≡ len (no_skips (ands (row_at (plain_of l.book) l.children) l.for_usage (mark_of l.mark)).kept))
     × (l.held ≤ l.child-index)
     × (vec_capacity l.bench ≡ vec_capacity l.initial.bench)
     × (vec_len l.bench + 3 * weights (row_at (plain_of l.book) (drop l.child-index l.children)) ≤ vec_len l.initial.bench + 3 * weights (row_at (plain_of l.book) l.children))
 
-abbrev pub invariant-or-row-loop-child : goal.invariant-or-row-loop-child
-invariant-or-row-loop-child l =
-    (entries (plain_of l.book) (vec_items l.bench) ++ posts (one_command l.seen (no_skips (ors (row_at (plain_of l.book) (drop l.child-index l.children)) l.for-usage (mark_of l.mark) (mark_of l.run)).kept)) ≡ entries (plain_of l.book) (vec_items l.initial.bench) ++ posts (one_command false (no_skips (ors (row_at (plain_of l.book) l.children) l.for-usage (mark_of l.mark) (mark_of l.mark)).kept)))
-    × (l.held + len (one_command l.seen (no_skips (ors (row_at (plain_of l.book) (drop l.child-index l.children)) l.for-usage (mark_of l.mark) (mark_of l.run)).kept)) ≡ len (one_command false (no_skips (ors (row_at (plain_of l.book) l.children) l.for-usage (mark_of l.mark) (mark_of l.mark)).kept)))
+abbrev pub invariant-or_row-loop-child : goal.invariant-or_row-loop-child
+invariant-or_row-loop-child l =
+    (entries (plain_of l.book) (vec_items l.bench) ++ posts (one_command l.seen (no_skips (ors (row_at (plain_of l.book) (drop l.child-index l.children)) l.for_usage (mark_of l.mark) (mark_of l.run)).kept)) ≡ entries (plain_of l.book) (vec_items l.initial.bench) ++ posts (one_command false (no_skips (ors (row_at (plain_of l.book) l.children) l.for_usage (mark_of l.mark) (mark_of l.mark)).kept)))
+    × (l.held + len (one_command l.seen (no_skips (ors (row_at (plain_of l.book) (drop l.child-index l.children)) l.for_usage (mark_of l.mark) (mark_of l.run)).kept)) ≡ len (one_command false (no_skips (ors (row_at (plain_of l.book) l.children) l.for_usage (mark_of l.mark) (mark_of l.mark)).kept)))
     × (l.held ≤ l.child-index)
-    × ((ors (row_at (plain_of l.book) (drop l.child-index l.children)) l.for-usage (mark_of l.mark) (mark_of l.run)).mark ≡ (ors (row_at (plain_of l.book) l.children) l.for-usage (mark_of l.mark) (mark_of l.mark)).mark)
+    × ((ors (row_at (plain_of l.book) (drop l.child-index l.children)) l.for_usage (mark_of l.mark) (mark_of l.run)).mark ≡ (ors (row_at (plain_of l.book) l.children) l.for_usage (mark_of l.mark) (mark_of l.mark)).mark)
     × (vec_capacity l.bench ≡ vec_capacity l.initial.bench)
     × (vec_len l.bench + 3 * weights (row_at (plain_of l.book) (drop l.child-index l.children)) ≤ vec_len l.initial.bench + 3 * weights (row_at (plain_of l.book) l.children))

@@ -10,7 +10,7 @@ pub returns : goal.returns
 returns c =
     let p = plain_of c.args.book.now in
     let bs = entries p (vec_items c.args.bench.now) in
-    let d = nf (tree_at p c.args.root) c.args.for-usage StrictNorm.pull in
+    let d = nf (tree_at p c.args.root) c.args.for_usage StrictNorm.pull in
     let l : length bs ≡ c.len-start.result = length-entries p _ ∙ sym (c.len-start.ensures ∙ c.args.bench.now.ok.0) in
     let b = c.bare.ensures.value p bs d.tree c.walk-back.ensures.value in
     record {

@@ -9,13 +9,13 @@ use Rattle.buffer.proofs.Writing.{writes}
 use Rattle.usage.proofs.Composed.{wrote_one}
 use Rattle.usage.proofs.words.write_item.Goals as goal
 
-pub returns-in-err-write-shortlong : goal.returns-in-err-write-shortlong
-returns-in-err-write-shortlong c = search (rules, writes)
+pub returns-in_err-write_shortlong : goal.returns-in_err-write_shortlong
+returns-in_err-write_shortlong c = search (rules, writes)
 
-pub returns-in-err-write-str : goal.returns-in-err-write-str
-returns-in-err-write-str c = search (rules, writes)
+pub returns-in_err-write_str : goal.returns-in_err-write_str
+returns-in_err-write_str c = search (rules, writes)
 
 pub returns-in-Command : goal.returns-in-Command
 returns-in-Command c =
-    subst (λ (i : Item). Wrote c.args.sheet.now (element_ops (item_reading (item_of (plain_of c.args.book.now) i))) c.write-str.new.self c.write-str.result)
-    (sym c.in-Command.is) (wrote_one _ _ _ _ c.write-str.ensures)
+    subst (λ (i : Item). Wrote c.args.sheet.now (element_ops (item_reading (item_of (plain_of c.args.book.now) i))) c.write_str.new.self c.write_str.result)
+    (sym c.in-Command.is) (wrote_one _ _ _ _ c.write_str.ensures)

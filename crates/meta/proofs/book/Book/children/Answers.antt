@@ -5,8 +5,8 @@ use Rattle.meta.specs.Shape.{node_of}
 use Rattle.meta.proofs.Stands.{node_at, node_past, spanned_at}
 use Rattle.meta.proofs.book.Book.children.Goals as goal
 
-pub slice-bounds-result-end : goal.slice-bounds-result-end
-slice-bounds-result-end c =
+pub slice_bounds-result-end : goal.slice_bounds-result-end
+slice_bounds-result-end c =
     let l : c.args.number < length (vec_items c.args.self.now.nodes) = omega arith in
     let h = spanned_at _ _ _ _ c.args.self.now.runs l c.index-node.ensures in
     search rules
@@ -18,8 +18,8 @@ returns-then-number-len c =
     let first : ℕ = c.index-node.result.now.first in
     let count : ℕ = c.index-node.result.now.count in
     let long : first + count - first ≡ count = omega arith in
-    ap (λ (t : ℕ). Some (take t (drop first c.as-slice.result.now))) long
-    ∙ ap (λ (t : List ℕ). Some (take count (drop first t))) c.as-slice.ensures.value
+    ap (λ (t : ℕ). Some (take t (drop first c.as_slice.result.now))) long
+    ∙ ap (λ (t : List ℕ). Some (take count (drop first t))) c.as_slice.ensures.value
     ∙ sym (ap (option_map (λ (n : Node). n.children)) (node_at _ (vec_items c.args.self.now.kids) _ _ l c.index-node.ensures))
 
 pub returns-else-number-len : goal.returns-else-number-len

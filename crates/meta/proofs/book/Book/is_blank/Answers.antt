@@ -7,7 +7,7 @@ use Rattle.meta.proofs.book.Book.is_blank.Goals as goal
 
 pub returns : goal.returns
 returns c =
-    c.is-empty.ensures
+    c.is_empty.ensures
     ∙ ap (λ (n : ℕ). eqb n 0)
     (sym (length-map c.tokens.result.now token_of)
     ∙ (ap length c.tokens.ensures.value

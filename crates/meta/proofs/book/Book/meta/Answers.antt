@@ -10,23 +10,23 @@ use Rattle.meta.proofs.book.Book.meta.Goals as goal
 pub decode-requires : goal.decode-requires
 decode-requires c =
     let p = plain_of c.args.self.now in
-    let n : Node = record { «record» = c.in-ok-record.record.now; children = c.in-ok-children.children.now } in
-    let here = node_of (at p.nodes c.args.number) _ _ c.in-ok-record.ensures c.in-ok-children.ensures in
+    let n : Node = record { «record» = c.in_ok-record.record.now; children = c.in_ok-children.children.now } in
+    let here = node_of (at p.nodes c.args.number) _ _ c.in_ok-record.ensures c.in_ok-children.ensures in
     stands-readable (length p.notes) c.args.number n ((book_sound c.args.self.now).standing c.args.number n here)
 
 pub returns : goal.returns
 returns c =
     let p = plain_of c.args.self.now in
-    let n : Node = record { «record» = c.in-ok-record.record.now; children = c.in-ok-children.children.now } in
-    let here = node_of (at p.nodes c.args.number) _ _ c.in-ok-record.ensures c.in-ok-children.ensures in
+    let n : Node = record { «record» = c.in_ok-record.record.now; children = c.in_ok-children.children.now } in
+    let here = node_of (at p.nodes c.args.number) _ _ c.in_ok-record.ensures c.in_ok-children.ensures in
     let below = stands_below (length p.notes) c.args.number n ((book_sound c.args.self.now).standing c.args.number n here) in (
       at_some p.nodes c.args.number n here,
       decoded_tree p c.args.number n c.decode.result here below c.decode.ensures.value,
       c.decode.ensures.bound below,
     )
 
-pub returns-in-err-record : goal.returns-in-err-record
-returns-in-err-record c = rw c.from-residual.ensures (at_none _ _ (unmapped (λ (n : Node). n.«record») _ c.in-err-record.ensures))
+pub returns-in_err-record : goal.returns-in_err-record
+returns-in_err-record c = rw c.from_residual.ensures (at_none _ _ (unmapped (λ (n : Node). n.«record») _ c.in_err-record.ensures))
 
-pub returns-in-err-children : goal.returns-in-err-children
-returns-in-err-children c = rw c.from-residual-in-err-children.ensures (at_none _ _ (unmapped (λ (n : Node). n.children) _ c.in-err-children.ensures))
+pub returns-in_err-children : goal.returns-in_err-children
+returns-in_err-children c = rw c.from_residual-in_err-children.ensures (at_none _ _ (unmapped (λ (n : Node). n.children) _ c.in_err-children.ensures))

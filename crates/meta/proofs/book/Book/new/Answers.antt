@@ -2,12 +2,20 @@ use Rattle.std.proofs.Common.{rules}
 use Rattle.meta.proofs.Placed.{spanned-none, unplaced-none, new_is, new-keeps}
 use Rattle.meta.proofs.book.Book.new.Goals as goal
 
-pub invariant-of-result : goal.invariant-of-result
-invariant-of-result c =
-    let nodes = c.in-ok-nodes.ensures.items in
-    let us = c.in-ok-unplaced.ensures.items in
-    let sound = new-keeps c.args.places _ _ _ nodes c.in-ok-store.ensures in
-    (search rules, (search rules, (spanned-none _ nodes, (unplaced-none _ us nodes, (sound.standing, (sound.single, (sound.noted, tt)))))))
+pub invariant_of-result : goal.invariant_of-result
+invariant_of-result c =
+    let nodes = c.in_ok-nodes.ensures.items in
+    let us = c.in_ok-unplaced.ensures.items in
+    let sound = new-keeps c.args.places _ _ _ nodes c.in_ok-store.ensures in
+    record {
+      sizes = search rules;
+      reserved = search rules;
+      runs = spanned-none _ nodes;
+      stack = unplaced-none _ us nodes;
+      standing = sound.standing;
+      single = sound.single;
+      noted = sound.noted;
+    }
 
 pub returns : goal.returns
-returns c = new_is _ _ _ _ c.in-ok-nodes.ensures.items c.in-ok-store.ensures
+returns c = new_is _ _ _ _ c.in_ok-nodes.ensures.items c.in_ok-store.ensures
