@@ -9,11 +9,11 @@ use Rattle.buffer.proofs.Writing.{writes}
 use Rattle.usage.proofs.Composed.{wrote_one}
 use Rattle.usage.proofs.words.write_item.Goals as goal
 
-pub returns-in_err-write_shortlong : goal.returns-in_err-write_shortlong
-returns-in_err-write_shortlong c = search (rules, writes)
+pub returns-in_err-write_shortlong-in-Argument : goal.returns-in_err-write_shortlong-in-Argument
+returns-in_err-write_shortlong-in-Argument c = search (rules, writes)
 
-pub returns-in_err-write_str : goal.returns-in_err-write_str
-returns-in_err-write_str c = search (rules, writes)
+pub returns-in_err-write_str-in-Argument : goal.returns-in_err-write_str-in-Argument
+returns-in_err-write_str-in-Argument c = search (rules, writes)
 
 pub returns-in-Command : goal.returns-in-Command
 returns-in-Command c =

@@ -135,35 +135,35 @@ write_meta-returns-in-Optional t c =
     let o = child (plain_of c.args.book.now) c.args.nodes.now c.args.at blank F.Optional u refl c.in-Optional.is h in
     wrote_tree c.args.sheet.now c.write_enclosed-in-Optional.new.sheet u _ c.write_enclosed-in-Optional.result o.shape (c.write_enclosed-in-Optional.ensures (inside u) o.tree)
 
-pub write_meta-returns-in_err-write_meta : goal.write_meta-returns-in_err-write_meta
-write_meta-returns-in_err-write_meta t c =
+pub write_meta-returns-in_err-write_meta-in-Many : goal.write_meta-returns-in_err-write_meta-in-Many
+write_meta-returns-in_err-write_meta-in-Many t c =
     λ u h.
     let o = child (plain_of c.args.book.now) c.args.nodes.now c.args.at blank F.Many u refl c.in-Many.is h in
     wrote_tree c.args.sheet.now c.write_meta.new.sheet u _ c.from_residual.result o.shape
     (wrote_as c.args.sheet.now _ _ (spell (reading (inside u)) ++ element_ops R.dots) _ (spell-then (reading (inside u)) (R.one R.dots R.end))
-    (wrote_stop c.args.sheet.now c.write_meta.new.sheet (spell (reading (inside u))) (element_ops R.dots) c.from_residual.result c.from_residual.ensures.0 (c.in_err-write_meta.ensures (inside u) o.tree)))
+    (wrote_stop c.args.sheet.now c.write_meta.new.sheet (spell (reading (inside u))) (element_ops R.dots) c.from_residual.result c.from_residual.ensures.0 (c.in_err-write_meta-in-Many.ensures (inside u) o.tree)))
 
-pub write_meta-returns-in_ok-write_meta : goal.write_meta-returns-in_ok-write_meta
-write_meta-returns-in_ok-write_meta t c =
+pub write_meta-returns-in_ok-write_meta-in-Many : goal.write_meta-returns-in_ok-write_meta-in-Many
+write_meta-returns-in_ok-write_meta-in-Many t c =
     λ u h.
     let o = child (plain_of c.args.book.now) c.args.nodes.now c.args.at blank F.Many u refl c.in-Many.is h in
     wrote_tree c.args.sheet.now c.write_dots.new.sheet u _ c.write_dots.result o.shape
     (wrote_as c.args.sheet.now _ _ (spell (reading (inside u)) ++ element_ops R.dots) _ (spell-then (reading (inside u)) (R.one R.dots R.end))
-    (wrote_then c.args.sheet.now c.write_meta.new.sheet c.write_dots.new.sheet (spell (reading (inside u))) (element_ops R.dots) c.write_dots.result (c.in_ok-write_meta.ensures (inside u) o.tree) c.write_dots.ensures))
+    (wrote_then c.args.sheet.now c.write_meta.new.sheet c.write_dots.new.sheet (spell (reading (inside u))) (element_ops R.dots) c.write_dots.result (c.in_ok-write_meta-in-Many.ensures (inside u) o.tree) c.write_dots.ensures))
 
-pub write_meta-returns-in_err-write_dashes : goal.write_meta-returns-in_err-write_dashes
-write_meta-returns-in_err-write_dashes t c =
+pub write_meta-returns-in_err-write_dashes-in-Strict : goal.write_meta-returns-in_err-write_dashes-in-Strict
+write_meta-returns-in_err-write_dashes-in-Strict t c =
     λ u h.
     let o = child (plain_of c.args.book.now) c.args.nodes.now c.args.at blank F.Strict u refl c.in-Strict.is h in
-    wrote_tree c.args.sheet.now c.write_dashes.new.sheet u _ c.from_residual-in_err-write_dashes.result o.shape
-    (wrote_stop c.args.sheet.now c.write_dashes.new.sheet (element_ops R.dashes) (spell (reading (inside u))) c.from_residual-in_err-write_dashes.result c.from_residual-in_err-write_dashes.ensures.0 c.in_err-write_dashes.ensures)
+    wrote_tree c.args.sheet.now c.write_dashes.new.sheet u _ c.from_residual-in_err-write_dashes-in-Strict.result o.shape
+    (wrote_stop c.args.sheet.now c.write_dashes.new.sheet (element_ops R.dashes) (spell (reading (inside u))) c.from_residual-in_err-write_dashes-in-Strict.result c.from_residual-in_err-write_dashes-in-Strict.ensures.0 c.in_err-write_dashes-in-Strict.ensures)
 
-pub write_meta-returns-in_ok-write_dashes : goal.write_meta-returns-in_ok-write_dashes
-write_meta-returns-in_ok-write_dashes t c =
+pub write_meta-returns-in_ok-write_dashes-in-Strict : goal.write_meta-returns-in_ok-write_dashes-in-Strict
+write_meta-returns-in_ok-write_dashes-in-Strict t c =
     λ u h.
     let o = child (plain_of c.args.book.now) c.args.nodes.now c.args.at blank F.Strict u refl c.in-Strict.is h in
     wrote_tree c.args.sheet.now c.write_meta-in-Strict.new.sheet u _ c.write_meta-in-Strict.result o.shape
-    (wrote_then c.args.sheet.now c.write_dashes.new.sheet c.write_meta-in-Strict.new.sheet (element_ops R.dashes) (spell (reading (inside u))) c.write_meta-in-Strict.result c.in_ok-write_dashes.ensures (c.write_meta-in-Strict.ensures (inside u) o.tree))
+    (wrote_then c.args.sheet.now c.write_dashes.new.sheet c.write_meta-in-Strict.new.sheet (element_ops R.dashes) (spell (reading (inside u))) c.write_meta-in-Strict.result c.in_ok-write_dashes-in-Strict.ensures (c.write_meta-in-Strict.ensures (inside u) o.tree))
 
 pub write_row-overflow_sub-end : goal.write_row-overflow_sub-end
 write_row-overflow_sub-end t c =
@@ -203,29 +203,29 @@ write_row-returns-in-1 t c =
     let q = split (plain_of c.args.book.now) c.args.nodes.now c.args.end _ ts 0 refl (l ∙ c.in-1.is) h in
     wrote_as c.args.sheet.now c.write_meta.new.sheet _ (spell (reading q.parts.last)) c.write_meta.result (spelled_one (element_of c.args.join) ts q.parts (l ∙ c.in-1.is)) (c.write_meta.ensures q.parts.last q.tree)
 
-pub write_row-returns-in_err-write_row : goal.write_row-returns-in_err-write_row
-write_row-returns-in_err-write_row t c =
+pub write_row-returns-in_err-write_row-in_default : goal.write_row-returns-in_err-write_row-in_default
+write_row-returns-in_err-write_row-in_default t c =
     λ ts l h.
     let m : 2 ≤ len ts = omega arith in
     let q = split (plain_of c.args.book.now) c.args.nodes.now c.args.end c.start.result ts (c.args.count - 1) c.start.ensures (omega arith) h in
     let e = element_of c.args.join in
     wrote_as c.args.sheet.now c.write_row.new.sheet _ (spell (joined e q.parts.front) ++ (element_ops e ++ spell (reading q.parts.last))) c.from_residual.result (spelled_more e ts q.parts m)
-    (wrote_stop c.args.sheet.now c.write_row.new.sheet (spell (joined e q.parts.front)) (element_ops e ++ spell (reading q.parts.last)) c.from_residual.result c.from_residual.ensures.0 (c.in_err-write_row.ensures q.parts.front q.count q.row))
+    (wrote_stop c.args.sheet.now c.write_row.new.sheet (spell (joined e q.parts.front)) (element_ops e ++ spell (reading q.parts.last)) c.from_residual.result c.from_residual.ensures.0 (c.in_err-write_row-in_default.ensures q.parts.front q.count q.row))
 
-pub write_row-returns-in_err-write_join : goal.write_row-returns-in_err-write_join
-write_row-returns-in_err-write_join t c =
+pub write_row-returns-in_err-write_join-in_default : goal.write_row-returns-in_err-write_join-in_default
+write_row-returns-in_err-write_join-in_default t c =
     λ ts l h.
     let m : 2 ≤ len ts = omega arith in
     let q = split (plain_of c.args.book.now) c.args.nodes.now c.args.end c.start.result ts (c.args.count - 1) c.start.ensures (omega arith) h in
     let e = element_of c.args.join in
-    wrote_as c.args.sheet.now c.write_join.new.sheet _ (spell (joined e q.parts.front) ++ (element_ops e ++ spell (reading q.parts.last))) c.from_residual-in_err-write_join.result (spelled_more e ts q.parts m)
-    (stopped_second c.args.sheet.now c.write_row.new.sheet c.write_join.new.sheet (spell (joined e q.parts.front)) (element_ops e) (spell (reading q.parts.last)) c.from_residual-in_err-write_join.result c.from_residual-in_err-write_join.ensures.0 (c.in_ok-write_row.ensures q.parts.front q.count q.row) c.in_err-write_join.ensures)
+    wrote_as c.args.sheet.now c.write_join.new.sheet _ (spell (joined e q.parts.front) ++ (element_ops e ++ spell (reading q.parts.last))) c.from_residual-in_err-write_join-in_default.result (spelled_more e ts q.parts m)
+    (stopped_second c.args.sheet.now c.write_row.new.sheet c.write_join.new.sheet (spell (joined e q.parts.front)) (element_ops e) (spell (reading q.parts.last)) c.from_residual-in_err-write_join-in_default.result c.from_residual-in_err-write_join-in_default.ensures.0 (c.in_ok-write_row-in_default.ensures q.parts.front q.count q.row) c.in_err-write_join-in_default.ensures)
 
-pub write_row-returns-in_ok-write_join : goal.write_row-returns-in_ok-write_join
-write_row-returns-in_ok-write_join t c =
+pub write_row-returns-in_ok-write_join-in_default : goal.write_row-returns-in_ok-write_join-in_default
+write_row-returns-in_ok-write_join-in_default t c =
     λ ts l h.
     let m : 2 ≤ len ts = omega arith in
     let q = split (plain_of c.args.book.now) c.args.nodes.now c.args.end c.start.result ts (c.args.count - 1) c.start.ensures (omega arith) h in
     let e = element_of c.args.join in
     wrote_as c.args.sheet.now c.write_meta-in_default.new.sheet _ (spell (joined e q.parts.front) ++ (element_ops e ++ spell (reading q.parts.last))) c.write_meta-in_default.result (spelled_more e ts q.parts m)
-    (wrote_three c.args.sheet.now c.write_row.new.sheet c.write_join.new.sheet c.write_meta-in_default.new.sheet (spell (joined e q.parts.front)) (element_ops e) (spell (reading q.parts.last)) c.write_meta-in_default.result (c.in_ok-write_row.ensures q.parts.front q.count q.row) c.in_ok-write_join.ensures (c.write_meta-in_default.ensures q.parts.last q.tree))
+    (wrote_three c.args.sheet.now c.write_row.new.sheet c.write_join.new.sheet c.write_meta-in_default.new.sheet (spell (joined e q.parts.front)) (element_ops e) (spell (reading q.parts.last)) c.write_meta-in_default.result (c.in_ok-write_row-in_default.ensures q.parts.front q.count q.row) c.in_ok-write_join-in_default.ensures (c.write_meta-in_default.ensures q.parts.last q.tree))
