@@ -1,5 +1,6 @@
 // Prints the usage line, or the refusal, of the book in each folder that is named.
 #![tactic(auto)]
+
 use anyhow::anyhow;
 use jobs::line::printed_line;
 use std::io::Write;

@@ -1,5 +1,6 @@
 // Prints the usage line of the book in the current folder, or why it is refused.
 #![tactic(auto)]
+
 use anyhow::anyhow;
 use jobs::line::printed_line;
 use std::fs;
