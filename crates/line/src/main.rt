@@ -5,13 +5,17 @@ use anyhow::anyhow;
 use jobs::line::printed_line;
 use std::fs;
 use std::io::Write;
+use std::process::ExitCode;
 
-fn main(rt: HostRuntime) -> anyhow::Result<()> {
-    let done = run(&rt);
-    if let Err(e) = &done {
-        eprintln!(rt; "line: {e}")?;
+fn main(rt: HostRuntime) -> ExitCode {
+    match run(&rt) {
+        Ok(()) => ExitCode::SUCCESS,
+        Err(e) => {
+            // Where standard error cannot be written there is no other place to say it.
+            let _ = eprintln!(rt; "line: {e}");
+            ExitCode::FAILURE
+        }
     }
-    done
 }
 
 fn run(rt: &HostRuntime) -> anyhow::Result<()> {
