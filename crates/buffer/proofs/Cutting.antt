@@ -1,9 +1,9 @@
 -- Cutting marks into notes, one mark at a time. Assumes nothing.
-use Rattle.std.proofs.Common.{◌≡◌, ℕ, zero, suc, ◌+◌, ◌-◌, ◌*◌, ◌<◌, ◌≤◌, Bool, true, false, cond, ◌&&◌, eqb, leb, List, [], ◌∷◌, ◌++◌, map, length, get_or, take, drop, sym, refl, ap, ◌∙◌, arith}
+use Rattle.std.proofs.Common.{◌≡◌, ℕ, ◌+◌, ◌-◌, ◌<◌, ◌≤◌, Bool, true, List, [], ◌∷◌, ◌++◌, map, length, get_or, take, drop, sym, refl, ap, ◌∙◌, arith}
 use Rattle.std.proofs.lemmas.List.{append-nil, append_assoc, map_push, length_push, length-drop, drop-append-le, take-append-le, drop_all, drop-drop, take_rest}
 use Rattle.std.proofs.lemmas.Bool.{and_parts, and_from, leb-true, le-leb}
 use Rattle.rules.specs.Lists.{all}
-use Rattle.rules.specs.Notes.{Token, Mark, token, stop, sizes, tokens_of, cut, Note}
+use Rattle.rules.specs.Notes.{Token, token, sizes, tokens_of, cut, Note}
 use Rattle.buffer.specs.declared.token.Token.{Token as CodeToken}
 use Rattle.buffer.specs.declared.mark.Mark.{Mark as CodeMark}
 use Rattle.buffer.specs.declared.mark.Mark.TheVariants as CM

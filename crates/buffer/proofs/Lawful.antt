@@ -1,9 +1,9 @@
 -- What a lawful store keeps. Assumes nothing.
-use Rattle.std.proofs.Common.{◌≡◌, ℕ, suc, ◌+◌, ◌*◌, ◌<◌, ◌≤◌, Bool, true, false, cond, ◌&&◌, eqb, leb, List, [], ◌∷◌, length, is_some, Some, None, Option, sym, refl, ap, ◌∙◌, arith}
+use Rattle.std.proofs.Common.{◌≡◌, ℕ, suc, ◌+◌, ◌*◌, ◌≤◌, Bool, true, false, cond, ◌&&◌, eqb, leb, List, [], ◌∷◌, length, is_some, Some, None, Option, sym, refl, ap, ◌∙◌, arith}
 use Rattle.std.proofs.lemmas.Bool.{and_parts, leb-true, eqb-true}
 use Rattle.std.specs.Option.{option_map}
 use Rattle.rules.specs.Lists.{all, when}
-use Rattle.rules.specs.Notes.{Mark, nested, ended, sizes, tokens_of, text_byte, mark_of, marks_of, before, lawful, lawful_marks, opened, is_store, cut, Note}
+use Rattle.rules.specs.Notes.{Mark, nested, ended, sizes, tokens_of, text_byte, mark_of, marks_of, before, lawful, lawful_marks, opened, is_store, cut}
 use Rattle.buffer.specs.Marks.{fitting, lawful_in}
 
 pub unfit : (m t : List ℕ) (o : Option (List Mark)) → fitting m t ≡ false → None ≡ lawful_in m t o

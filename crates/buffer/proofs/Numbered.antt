@@ -1,5 +1,5 @@
 -- The note of a number. Assumes nothing.
-use Rattle.std.proofs.Common.{◌≡◌, ℕ, zero, suc, ◌+◌, ◌<◌, ◌≤◌, Bool, true, false, ◌&&◌, eqb, List, [], ◌∷◌, map, length, get_or, take, drop, Some, None, vec_items, vec_len, Option, sym, refl, ap, ◌∙◌, arith}
+use Rattle.std.proofs.Common.{◌≡◌, ℕ, zero, suc, ◌+◌, ◌<◌, ◌≤◌, Bool, true, ◌&&◌, eqb, List, [], ◌∷◌, map, length, get_or, take, drop, Some, None, vec_items, vec_len, Option, sym, refl, ap, ◌∙◌, arith}
 use Rattle.std.proofs.lemmas.List.{length-map}
 use Rattle.std.proofs.lemmas.Bool.{and_parts, eqb-true, leb-true}
 use Rattle.rules.specs.Lists.{all, at, or_else}
@@ -10,7 +10,7 @@ use Rattle.buffer.specs.declared.token.Token.{Token as CodeToken}
 use Rattle.buffer.specs.declared.store.Place.{Place}
 use Rattle.buffer.specs.declared.store.Store.{Store}
 use Rattle.buffer.specs.Tokens.{token_of}
-use Rattle.buffer.specs.Places.{lies, ends, note_from, notes_from}
+use Rattle.buffer.specs.Places.{lies, ends, note_from}
 use Rattle.buffer.specs.Stores.{notes_in, note_numbered}
 
 at_map : {X Y : Type 0} (f : X → Y) (xs : List X) (n : ℕ) (x : X) → n < length xs → x ≡ get_or xs n x → at (map f xs) n ≡ Some (f x)

@@ -1,8 +1,8 @@
 -- What a store opens with. Assumes nothing.
-use Rattle.std.proofs.Common.{◌≡◌, ℕ, ◌+◌, ◌*◌, ◌≤◌, true, List, [], length, Some, None, Option, sym, refl, ap, ◌∙◌, arith}
+use Rattle.std.proofs.Common.{◌≡◌, ℕ, ◌≤◌, true, List, [], length, Some, None, sym, ap, ◌∙◌, arith}
 use Rattle.std.proofs.lemmas.List.{length-map}
 use Rattle.rules.specs.Lists.{all}
-use Rattle.rules.specs.Notes.{Mark, Note, sizes, tokens_of, marks_of, cut, notes_of}
+use Rattle.rules.specs.Notes.{Note, sizes, tokens_of, marks_of, cut, notes_of}
 use Rattle.rules.specs.Sound.{whole}
 use Rattle.rules.proofs.Wholes.{all_pass, notes_whole}
 use Rattle.buffer.specs.declared.token.Token.{Token as CodeToken}

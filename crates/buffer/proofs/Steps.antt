@@ -1,10 +1,8 @@
 -- One mark or byte more of what is left. Assumes nothing.
-use Rattle.std.proofs.Common.{◌≡◌, ℕ, ◌+◌, ◌-◌, ◌<◌, ◌≤◌, Bool, true, false, cond, ◌&&◌, eqb, List, [], ◌∷◌, ◌++◌, map, reverse, length, get_or, drop, sym, refl, ap, ◌∙◌, arith}
+use Rattle.std.proofs.Common.{◌≡◌, ℕ, ◌+◌, ◌-◌, ◌<◌, ◌≤◌, Bool, false, eqb, List, [], ◌∷◌, length, get_or, drop, sym, refl, ap, ◌∙◌, arith}
 use Rattle.std.proofs.lemmas.List.{at_drop_more, at_drop_all}
-use Rattle.std.proofs.lemmas.Bool.{eq-eqb, ne_eqb}
 use Rattle.std.proofs.lemmas.Bool.Decides.{nat_tests}
-use Rattle.rules.specs.Lists.{all}
-use Rattle.rules.specs.Notes.{Mark, token, stop, Text, Start, End, text_byte, ended, nested, sizes, tokens_of}
+use Rattle.rules.specs.Notes.{Mark, token, stop, Text, Start, End, sizes, tokens_of}
 use Rattle.buffer.specs.declared.mark.Mark.{Mark as CodeMark}
 use Rattle.buffer.specs.declared.mark.Mark.TheVariants as CM
 use Rattle.buffer.specs.declared.token.Token.TheVariants as CT

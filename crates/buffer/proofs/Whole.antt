@@ -1,7 +1,6 @@
 -- How bytes are read as marks, four at a time. Assumes nothing.
-use Rattle.std.proofs.Common.{◌≡◌, ℕ, suc, ◌+◌, ◌*◌, ◌/◌, ◌%◌, ◌<◌, ◌≤◌, List, [], ◌∷◌, ◌++◌, length, get_or, drop, Some, None, Option, sym, refl, ap, ◌∙◌, arith}
+use Rattle.std.proofs.Common.{◌≡◌, ℕ, ◌+◌, ◌*◌, ◌%◌, ◌<◌, ◌≤◌, List, [], ◌∷◌, ◌++◌, length, get_or, drop, Some, None, Option, sym, refl, ap, ◌∙◌, arith}
 use Rattle.std.proofs.lemmas.List.{drop_more, at_drop_all, append-nil, append_assoc, map_push}
-use Rattle.std.specs.Option.{option_map}
 use Rattle.rules.specs.Notes.{Mark, mark_of, marks_of, before}
 use Rattle.buffer.specs.declared.mark.Mark.{Mark as CodeMark}
 use Rattle.buffer.specs.Marks.{mark_view, marks_view}

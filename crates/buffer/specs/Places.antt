@@ -1,6 +1,5 @@
 -- Where the notes of a store stand among its tokens and bytes.
-use Rattle.std.specs.Prelude.{ℕ, ◌+◌, Bool, true, ◌&&◌, List, map, take, drop, nat_le}
-use Rattle.rules.specs.Lists.{all}
+use Rattle.std.specs.Prelude.{ℕ, ◌+◌, Bool, ◌&&◌, List, map, take, drop, nat_le}
 use Rattle.rules.specs.Notes.{Note}
 use Rattle.buffer.specs.declared.token.Token.{Token as CodeToken}
 use Rattle.buffer.specs.declared.store.Span.{Span}

@@ -1,9 +1,9 @@
 -- A book that is filled, record by record.
-use Rattle.std.proofs.Common.{◌≡◌, ℕ, List, [], ◌∷◌, Some, None, Ok, Err, Option, Result, sym, refl, ap, ◌∙◌}
+use Rattle.std.proofs.Common.{◌≡◌, ℕ, List, ◌∷◌, Some, None, Ok, Err, Option, sym, refl, ap, ◌∙◌}
 use Rattle.rules.specs.Rejection.{Rejection}
 use Rattle.rules.specs.Plain.{Plain, add_rule, added, grown, unless}
 use Rattle.meta.specs.Rejections.{by_rule}
-use Rattle.jobs.specs.Jobs.{Filled, filled, unless_rejected, records_in}
+use Rattle.jobs.specs.Jobs.{filled, unless_rejected}
 
 -- what a table says where its answer is a value, and where it is a rejection
 pub accepted : {X : Type 0} (o : Option Rejection) (x y : X) → Ok x ≡ by_rule o y → o ≡ None

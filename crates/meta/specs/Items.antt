@@ -1,5 +1,5 @@
 -- The items and tree nodes of the code over a plain book, as those of the rules.
-use Rattle.std.specs.Prelude.{ℕ, Bool, List, [], map, Some, None, Option}
+use Rattle.std.specs.Prelude.{ℕ, List, [], map, Some, None, Option}
 use Rattle.std.specs.Option.{option_map}
 use Rattle.rules.specs.Lists.{at, or_else}
 use Rattle.rules.specs.Notes.{Note}

@@ -1,5 +1,5 @@
 -- From the entries of a tree the tree is found again.
-use Rattle.std.proofs.Common.{◌≡◌, ℕ, zero, suc, ◌+◌, List, [], ◌∷◌, ◌++◌, length, get_or, drop, sym, refl, ap, ◌∙◌, ap₂, append_assoc, add-zero, arith}
+use Rattle.std.proofs.Common.{◌≡◌, ℕ, suc, ◌+◌, List, [], ◌∷◌, ◌++◌, get_or, drop, sym, refl, ap, ◌∙◌, ap₂, append_assoc, add-zero, arith}
 use Rattle.std.proofs.lemmas.List.{append-nil}
 use Rattle.rules.specs.Tree.{Meta, Metas}
 use Rattle.normal.specs.Bench.{Top, Entry, len, seal, post, posts, gather, step, run, tree_in}

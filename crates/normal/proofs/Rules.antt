@@ -1,10 +1,9 @@
 -- The rules of the normal form, by the kind of a tree's top.
-use Rattle.std.proofs.Common.{◌≡◌, ℕ, Bool, true, false, cond, not, ◌&&◌, ◌||◌, eqb, ◌⊎◌, get_or, sym, refl, ap, ◌∙◌, ap₂, inl, inr, arith, eqb-true}
+use Rattle.std.proofs.Common.{◌≡◌, ℕ, Bool, true, false, cond, not, ◌&&◌, ◌||◌, ◌⊎◌, get_or, sym, refl, ap, ◌∙◌, ap₂, inl, inr, eqb-true}
 use Rattle.rules.specs.Kind.{Kind}
 use Rattle.rules.specs.Kind as K
-use Rattle.rules.specs.Tree.{Meta, Metas, Item, kind_of_tree, is, inside}
+use Rattle.rules.specs.Tree.{Meta, Item, kind_of_tree, is, inside}
 use Rattle.rules.specs.NormalForm.{many_of, required_of, optional_of, bare}
-use Rattle.meta.specs.declared.item.Item.{Item as CodeItem}
 use Rattle.meta.specs.declared.item.Item.TheVariants as CI
 use Rattle.normal.specs.declared.bench.Form.{Form}
 use Rattle.normal.specs.declared.bench.Form.TheVariants as F

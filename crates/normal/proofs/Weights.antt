@@ -1,10 +1,10 @@
 -- The rows of a book's nodes, child by child.
-use Rattle.std.proofs.Common.{◌≡◌, ℕ, zero, suc, ◌+◌, ◌-◌, ◌*◌, ◌<◌, ◌≤◌, Bool, true, false, ◌&&◌, ltb, List, [], ◌∷◌, ◌++◌, map, length, get_or, drop, sym, refl, ap, ◌∙◌, subst, ap₂, add-zero, arith, ltb-true}
+use Rattle.std.proofs.Common.{◌≡◌, ℕ, zero, suc, ◌+◌, ◌<◌, ◌≤◌, Bool, true, false, ◌&&◌, ltb, List, [], ◌∷◌, ◌++◌, length, get_or, drop, sym, refl, ap, ◌∙◌, subst, add-zero, arith, ltb-true}
 use Rattle.rules.specs.Lists.{all}
 use Rattle.rules.specs.Plain.{Plain}
-use Rattle.rules.specs.Tree.{Meta, Metas, metas, tree_at}
-use Rattle.rules.specs.NormalForm.{StrictNorm, Row, nf, ands, ors, wrapped, running, no_skips, one_command}
-use Rattle.normal.specs.Bench.{Entry, len, post, posts}
+use Rattle.rules.specs.Tree.{Meta, Metas, tree_at}
+use Rattle.rules.specs.NormalForm.{StrictNorm, nf, ands, ors, wrapped, running, no_skips, one_command}
+use Rattle.normal.specs.Bench.{Entry, len, posts}
 use Rattle.normal.specs.Rows.{row_at, Settles}
 use Rattle.rules.specs.Weight.{weight, weights}
 use Rattle.normal.proofs.Children.{one, and_settled, or_settled}

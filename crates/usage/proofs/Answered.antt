@@ -1,17 +1,12 @@
 -- The answer to a call for a line, by the rows of the table.
-use Rattle.std.proofs.Common.{◌≡◌, ℕ, ◌+◌, ◌*◌, ◌≤◌, min, Bool, true, false, not, eqb, ltb, leb, List, [], ◌∷◌, map, length, Some, None, Ok, Err, vec_items, Option, sym, refl, ap, ◌∙◌, subst, arith}
-use lib.ListN.{length-map}
+use Rattle.std.proofs.Common.{◌≡◌, ℕ, ◌+◌, ◌*◌, ◌≤◌, Bool, true, false, not, eqb, ltb, leb, List, [], ◌∷◌, length, Some, None, Ok, Err, Option, sym, refl, ap, ◌∙◌, subst, arith}
 use Rattle.std.proofs.lemmas.List.{take_all}
-use Rattle.std.proofs.lemmas.Bool.{le-leb, and_from}
 use Rattle.rules.specs.Lists.{first, when}
 use Rattle.rules.specs.Rejection.{Rejection, reject, tree, sheet}
 use Rattle.rules.specs.Plain.{Plain}
 use Rattle.rules.specs.Tree.{Meta}
 use Rattle.rules.specs.Content.{Content, Limits, fits}
 use Rattle.rules.specs.Table.{no_node, small_bench, too_long}
-use Rattle.buffer.specs.declared.sheet.Sheet.{Sheet}
-use Rattle.buffer.specs.Contents.{content_of, limits_of}
-use Rattle.buffer.specs.Tokens.{token_of}
 use Rattle.meta.specs.Rejections.{by_rule}
 use Rattle.normal.specs.declared.bench.Normal.{Normal}
 use Rattle.normal.specs.Bench.{entries, post}

@@ -1,9 +1,9 @@
 -- That a line which is written from a root of a book loses nothing.
-use Rattle.std.proofs.Common.{◌≡◌, ℕ, true, sym, ap, ◌∙◌}
+use Rattle.std.proofs.Common.{◌≡◌, ℕ, sym, ap, ◌∙◌}
 use Rattle.rules.specs.Plain.{Plain}
 use Rattle.rules.specs.Sound.{Sound}
 use Rattle.rules.specs.Tree.{tree_at}
-use Rattle.rules.specs.Reading.{Reading, reading_of, said}
+use Rattle.rules.specs.Reading.{reading_of, said}
 use Rattle.rules.specs.Content.{Content, line}
 use Rattle.rules.proofs.Roll.{roll_law}
 use Rattle.rules.proofs.Flat.{line_determines}

@@ -1,4 +1,4 @@
-use Rattle.std.proofs.Common.{◌≡◌, ◌+◌, Bool, true, false, ◌∷◌, drop, sym, ap, ◌∙◌}
+use Rattle.std.proofs.Common.{◌+◌, Bool, ◌∷◌, drop, sym, ap, ◌∙◌}
 use Rattle.rules.specs.Notes.{ended}
 use Rattle.buffer.specs.declared.mark.Mark.{Mark}
 use Rattle.buffer.specs.Marks.{mark_view, marks_view}

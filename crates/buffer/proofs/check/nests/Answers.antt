@@ -1,5 +1,5 @@
 use Rattle.std.proofs.Common.{vec_items, ap, ◌∙◌}
-use Rattle.buffer.specs.Marks.{open_blocks, Goes, mark_view}
+use Rattle.buffer.specs.Marks.{open_blocks}
 use Rattle.buffer.proofs.Nesting.{goes_stop, goes_token, nests_more, nests_fail, nests_all}
 use Rattle.buffer.proofs.check.nests.Goals as goal
 use Rattle.buffer.proofs.check.nests.Goals.{in-Token+in_ok-lawful-in-Token, in-Stop}

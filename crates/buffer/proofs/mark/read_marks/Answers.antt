@@ -1,5 +1,5 @@
-use Rattle.std.proofs.Common.{◌≡◌, ℕ, ◌+◌, ◌*◌, ◌<◌, ◌≤◌, List, length, vec_items, sym, refl, ap, ◌∙◌, arith}
-use Rattle.rules.specs.Notes.{Mark, marks_of}
+use Rattle.std.proofs.Common.{◌+◌, ◌*◌, ◌<◌, ◌≤◌, List, length, vec_items, sym, refl, ap, ◌∙◌, arith}
+use Rattle.rules.specs.Notes.{marks_of}
 use Rattle.buffer.specs.Marks.{marks_view}
 use Rattle.buffer.proofs.Whole.{behind, behind-none, short, reads_more, reads_none, reads_all}
 use Rattle.buffer.proofs.mark.read_marks.Goals as goal

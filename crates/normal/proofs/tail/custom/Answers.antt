@@ -1,4 +1,4 @@
-use Rattle.std.proofs.Common.{◌≡◌, Bool, true, cond, [], ◌++◌, vec_items, sym, ap, ◌∙◌, ap₂, rules}
+use Rattle.std.proofs.Common.{Bool, cond, [], ◌++◌, vec_items, sym, ◌∙◌, ap₂, rules}
 use Rattle.std.proofs.lemmas.List.{append-nil}
 use Rattle.rules.specs.Tree.{Meta}
 use Rattle.meta.specs.Items.{note_numbered}

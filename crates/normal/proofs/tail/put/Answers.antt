@@ -1,4 +1,4 @@
-use Rattle.std.proofs.Common.{◌≡◌, ◌+◌, length, vec_items, vec_len, sym, ap, ◌∙◌, arith, length-append, rules}
+use Rattle.std.proofs.Common.{◌≡◌, ◌+◌, length, vec_items, sym, ap, ◌∙◌, arith, length-append, rules}
 use Rattle.normal.proofs.Tops.{sealed_up, length-entries}
 use Rattle.normal.proofs.tail.put.Goals as goal
 

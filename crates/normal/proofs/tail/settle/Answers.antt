@@ -1,8 +1,8 @@
-use Rattle.std.proofs.Common.{◌≡◌, Bool, false, not, ◌&&◌, ◌||◌, vec_items, sym, ap, ◌∙◌, rules}
+use Rattle.std.proofs.Common.{◌≡◌, false, not, ◌&&◌, ◌||◌, vec_items, sym, ap, ◌∙◌, rules}
 use Rattle.rules.specs.Kind.{Kind}
 use Rattle.rules.specs.Kind as K
 use Rattle.normal.specs.Bench.{post}
-use Rattle.normal.specs.Rows.{stays, sees}
+use Rattle.normal.specs.Rows.{stays}
 use Rattle.normal.proofs.Children.{goes_so, cut_off}
 use Rattle.normal.proofs.tail.settle.Goals as goal
 

@@ -1,4 +1,4 @@
-use Rattle.std.proofs.Common.{◌≡◌, suc, ◌+◌, ◌<◌, false, [], ◌++◌, length, get_or, drop, vec_items, vec_len, sym, refl, ap, ◌∙◌, add-zero, arith, rules}
+use Rattle.std.proofs.Common.{◌≡◌, suc, ◌+◌, ◌<◌, false, [], ◌++◌, length, get_or, drop, vec_items, sym, refl, ap, ◌∙◌, add-zero, arith, rules}
 use Rattle.std.proofs.lemmas.List.{append-nil}
 use Rattle.rules.specs.Tree.{Meta, Metas, Item, tree_at}
 use Rattle.rules.specs.NormalForm.{nf, ands, ors, wrapped, no_skips, one_command}

@@ -1,4 +1,4 @@
-use Rattle.std.proofs.Common.{◌≡◌, ◌++◌, length, vec_items, sym, ap, ◌∙◌, arith, rules}
+use Rattle.std.proofs.Common.{◌≡◌, ◌++◌, length, vec_items, sym, ap, ◌∙◌, rules}
 use Rattle.rules.specs.Tree.{tree_at}
 use Rattle.rules.specs.NormalForm.{StrictNorm, nf, bare, wrapped}
 use Rattle.normal.specs.Bench.{post, entries}

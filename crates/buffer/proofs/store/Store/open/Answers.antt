@@ -1,4 +1,4 @@
-use Rattle.std.proofs.Common.{◌≡◌, vec_items, sym, ap, ◌∙◌}
+use Rattle.std.proofs.Common.{vec_items, sym, ap, ◌∙◌}
 use Rattle.std.specs.Option.{option_map}
 use Rattle.buffer.specs.Marks.{marks_in}
 use Rattle.buffer.proofs.Opened.{none_notes, few_marks, small_sum, opened_within, opened_notes, opened-whole}

@@ -1,4 +1,4 @@
-use Rattle.std.proofs.Common.{◌≡◌, ℕ, ◌+◌, ◌-◌, ◌<◌, ◌≤◌, List, [], map, length, vec_items, sym, ap, ◌∙◌, arith, rules}
+use Rattle.std.proofs.Common.{◌≡◌, ◌+◌, ◌-◌, ◌<◌, ◌≤◌, length, vec_items, sym, ap, ◌∙◌, arith, rules}
 use Rattle.rules.specs.Notes.{Note, sizes}
 use Rattle.buffer.proofs.Numbered.{sized, absent, within_text, text_is}
 use Rattle.buffer.proofs.store.Store.text.Goals as goal

@@ -1,4 +1,4 @@
-use Rattle.std.proofs.Common.{◌≡◌, ℕ, ◌+◌, ◌-◌, ◌<◌, ◌≤◌, List, [], map, length, vec_items, sym, ap, ◌∙◌, arith, rules}
+use Rattle.std.proofs.Common.{◌≡◌, ◌+◌, ◌-◌, ◌<◌, ◌≤◌, length, vec_items, sym, ap, ◌∙◌, arith, rules}
 use Rattle.rules.specs.Notes.{Note, sizes}
 use Rattle.buffer.proofs.Numbered.{sized, absent, within_tokens, tokens_are}
 use Rattle.buffer.proofs.store.Store.tokens.Goals as goal

@@ -1,5 +1,4 @@
-use Rattle.std.proofs.Common.{◌≡◌, ℕ, ◌+◌, ◌-◌, ◌≤◌, vec_items, ap, ◌∙◌, arith, rules}
-use Rattle.buffer.specs.declared.store.Place.{Place}
+use Rattle.std.proofs.Common.{ℕ, ◌+◌, ◌-◌, ◌≤◌, vec_items, ap, ◌∙◌, arith, rules}
 use Rattle.buffer.proofs.Cutting.{within_all, cutting_token, cutting_stop, cutting_all, within_end}
 use Rattle.buffer.proofs.store.opens.cut_notes.Goals as goal
 use Rattle.buffer.proofs.store.opens.cut_notes.Goals.{in-Token+in_ok-push-in-Token, in-Stop+in_ok-push-in-Stop}

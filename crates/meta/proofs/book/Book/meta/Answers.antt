@@ -1,4 +1,4 @@
-use Rattle.std.proofs.Common.{◌≡◌, length, Some}
+use Rattle.std.proofs.Common.{length}
 use Rattle.rules.specs.Lists.{at}
 use Rattle.rules.specs.Plain.{Node}
 use Rattle.meta.specs.View.{plain_of}
