@@ -96,5 +96,5 @@ pub raw_over_bytes : (l : Limits) (c : Content) (n : Note) → l.bytes < length 
 unfolding apply
 raw_over_bytes l c n h = over_bytes l (apply c (raw n)) (simp length-append (omega arith))
 
--- what a writer that is made of others answers by: `search (needs, writes)`
+-- what a writer that is made of others answers by: `search (rules, writes)`
 pub ruleset writes = (applies-++, over-apply, over-applies, apply_joins, over_first, over_second, over_inner)

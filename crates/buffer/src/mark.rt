@@ -1,5 +1,5 @@
 // The marks of a store's bytes, and how they are read.
-ghost use Rattle.std.specs.Prelude.{◌≡◌, ◌+◌, ◌*◌, ◌&&◌, IfOk, if◌then◌else◌, Some, None, ◌==◌, nat_eq};
+ghost use Rattle.std.specs.Prelude.{◌≡◌, ◌+◌, ◌*◌, ◌&&◌, IfOk, if◌then◌else◌, Some, None, ◌==◌};
 ghost use Rattle.std.specs.Option.{option_map};
 ghost use Rattle.rules.specs.Lists.{at};
 ghost use Rattle.rules.specs.Style.{styles};
@@ -101,7 +101,7 @@ fn end_mark(kind: u8, length: u16) -> Option<Mark>
 }
 
 fn stop_mark(kind: u8, length: u16) -> Option<Mark>
-    ensures { option_map mark_view result ≡ (if nat_eq kind 0 && length == 0 then Some stop else None) }
+    ensures { option_map mark_view result ≡ (if kind == 0 && length == 0 then Some stop else None) }
 {
     if kind == 0 && length == 0 {
         Some(Mark::Stop)

@@ -60,10 +60,10 @@ entries-take p zero ns = refl
 entries-take p (suc k) [] = refl
 entries-take p (suc k) (n ∷ ns) = ap (λ (es : List Entry). entry_of p n ∷ es) (entries-take p k ns)
 
-pub entries_get_d : (p : Plain) (k : ℕ) (ns : List Normal) (d : Normal) → entry_of p (get_or ns k d) ≡ get_or (entries p ns) k (entry_of p d)
-entries_get_d p k [] d = refl
-entries_get_d p zero (n ∷ ns) d = refl
-entries_get_d p (suc k) (n ∷ ns) d = entries_get_d p k ns d
+pub entries-get_or : (p : Plain) (k : ℕ) (ns : List Normal) (d : Normal) → entry_of p (get_or ns k d) ≡ get_or (entries p ns) k (entry_of p d)
+entries-get_or p k [] d = refl
+entries-get_or p zero (n ∷ ns) d = refl
+entries-get_or p (suc k) (n ∷ ns) d = entries-get_or p k ns d
 
 -- a tree's entries end in its top
 pub record Ends (t : Meta) : Type 0 where
@@ -144,7 +144,7 @@ top_is p ns bs t x n l r e =
     let i : n - 1 ≡ length (entries p ns) - 1 = (let h = length-entries p ns in omega arith) in
     sym (form_kind p x.form)
     ∙ ap (λ (y : Normal). kind_of_top (entry_of p y).top) r
-    ∙ ap (λ (y : Entry). kind_of_top y.top) (entries_get_d p (n - 1) ns x)
+    ∙ ap (λ (y : Entry). kind_of_top y.top) (entries-get_or p (n - 1) ns x)
     ∙ ap (λ (k : ℕ). kind_of_top (get_or (entries p ns) k (entry_of p x)).top) i
     ∙ kind_last (entries p ns) bs t (entry_of p x) e
 
@@ -153,7 +153,7 @@ second_is p ns bs t x z n l r e =
     let i : n - 2 ≡ length (entries p ns) - 2 = (let h = length-entries p ns in omega arith) in
     sym (form_kind p x.form)
     ∙ ap (λ (y : Normal). kind_of_top (entry_of p y).top) r
-    ∙ ap (λ (y : Entry). kind_of_top y.top) (entries_get_d p (n - 2) ns x)
+    ∙ ap (λ (y : Entry). kind_of_top y.top) (entries-get_or p (n - 2) ns x)
     ∙ ap (λ (k : ℕ). kind_of_top (get_or (entries p ns) k (entry_of p x)).top) i
     ∙ kind_second (entries p ns) bs t (entry_of p x) z e
 

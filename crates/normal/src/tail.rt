@@ -2,7 +2,7 @@
 ghost use Rattle.std.specs.Prelude.{◌≡◌, ◌+◌, ◌≤◌, List, [], ◌∷◌, ◌++◌, length, vec_len, vec_capacity, ◌==◌};
 ghost use Rattle.rules.specs.Plain.{Plain};
 ghost use Rattle.rules.specs.Tree.{Meta, Metas, kind_of_tree};
-ghost use Rattle.rules.specs.NormalForm.{many_of, required_of, optional_of, custom_of, wrapped, and_of, or_of, bare as bareOf};
+ghost use Rattle.rules.specs.NormalForm.{many_of, required_of, optional_of, custom_of, wrapped, and_of, or_of, bare as bare_of};
 ghost use Rattle.meta.specs.Items.{note_numbered};
 ghost use Rattle.normal.specs.Bench.{Entry, seal, post, posts, len, top_of, entries, kind_of, Room};
 ghost use Rattle.normal.specs.Marks.{mark_of};
@@ -198,7 +198,7 @@ pub(crate) fn close_or(bench: &mut Vec<Normal>, start: usize, kept: u16)
 
 // Takes a Required off the tree at the bench's end, unless it holds an Or.
 pub(crate) fn bare(bench: &mut Vec<Normal>)
-    ensures value { (p : Plain) (bs : List Entry) (t : Meta) → entries p bench.old.items ≡ bs ++ post t → entries p bench.new.items ≡ bs ++ post (bareOf t) }
+    ensures value { (p : Plain) (bs : List Entry) (t : Meta) → entries p bench.old.items ≡ bs ++ post t → entries p bench.new.items ≡ bs ++ post (bare_of t) }
     ensures bound { vec_len bench.new ≤ vec_len bench.old }
     ensures same { vec_capacity bench.new ≡ vec_capacity bench.old }
 {

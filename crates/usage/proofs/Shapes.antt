@@ -6,7 +6,7 @@ use Rattle.rules.specs.Tree.{Meta, Metas, inside}
 use Rattle.normal.specs.Bench.{Top, Entry, len, seal, post, posts, top_of, entry_of, entries}
 use Rattle.normal.specs.declared.bench.Form.{Form}
 use Rattle.normal.specs.declared.bench.Normal.{Normal}
-use Rattle.normal.proofs.Tops.{length-entries, entries_get_d}
+use Rattle.normal.proofs.Tops.{length-entries, entries-get_or}
 use Rattle.usage.specs.Standing.{Ends, TreeAt, RowTo, size_at}
 use Rattle.usage.proofs.Rows.{Parted, parted, posts_last}
 
@@ -145,7 +145,7 @@ pub record Opened (p : Plain) (ns : List Normal) (at : ℕ) (d : Normal) (f : Fo
   pub count : count_of (rebuilt (top_of p f) t) ≡ (get_or ns at d).count
 
 node_at : (p : Plain) (ns : List Normal) (at : ℕ) (d : Normal) (t : Meta) → TreeAt (entries p ns) at t → entry_of p (get_or ns at d) ≡ record { top = top_of_tree t; count = count_of t; size = length (body_of t) + 1 }
-node_at p ns at d t h = entries_get_d p at ns d ∙ (top_at (entries p ns) at (entry_of p d) t h).1
+node_at p ns at d t h = entries-get_or p at ns d ∙ (top_at (entries p ns) at (entry_of p d) t h).1
 
 pub opened : (p : Plain) (ns : List Normal) (at : ℕ) (d : Normal) (f : Form) (t : Meta) → (get_or ns at d).form ≡ f → TreeAt (entries p ns) at t → Opened p ns at d f t
 opened p ns at d f t e h =

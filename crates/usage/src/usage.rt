@@ -3,7 +3,7 @@ ghost use Rattle.std.specs.Prelude.{◌≡◌, [], ◌∷◌, OnOk};
 ghost use Rattle.rules.specs.Lists.{first};
 ghost use Rattle.rules.specs.Reading.{reading_of};
 ghost use Rattle.rules.specs.Content.{blank, line};
-ghost use Rattle.rules.specs.Rejection.{reject, sheet as sheetLayer};
+ghost use Rattle.rules.specs.Rejection.{reject, sheet as sheet_layer};
 ghost use Rattle.rules.specs.Table.{no_node, small_bench, too_long};
 ghost use Rattle.buffer.specs.Contents.{content_of, limits_of};
 ghost use Rattle.meta.specs.View.{plain_of};
@@ -39,7 +39,7 @@ pub fn usage(
 
 // Empties the sheet, which a line does not fit, and says so.
 fn refuse(root: usize, sheet: &mut Sheet) -> Rejection
-    ensures value { rejection_of result ≡ reject 32 sheetLayer root }
+    ensures value { rejection_of result ≡ reject 32 sheet_layer root }
     ensures after { content_of sheet.new ≡ blank }
     ensures same { limits_of sheet.new ≡ limits_of sheet.old }
 {
