@@ -1,25 +1,21 @@
 -- How a list of tokens grows by a text.
-use Rattle.std.proofs.Common.{◌≡◌, ℕ, zero, suc, ◌+◌, ◌≤◌, Bool, true, false, cond, eqb, List, [], ◌∷◌, ◌++◌, map, length, get_or, set, Some, None, refl, ap, ◌∙◌, add_assoc, arith}
-use mathlib.Core.List.{map-append}
-use Rattle.rules.specs.Style.{Style}
-use Rattle.rules.specs.Style as S
-use Rattle.rules.specs.Notes.{Token, Text, Start, End, sizes}
+use Rattle.std.proofs.Common.{◌≡◌, ℕ, zero, suc, ◌+◌, ◌≤◌, Bool, true, false, if◌then◌else◌, eqb, List, [], ◌∷◌, ◌++◌, length, get_or, set, Some, None, refl, ap, ◌∙◌, add_assoc, arith}
+use Rattle.terms.specs.Style.{style_number}
+use Rattle.terms.specs.declared.text.Style.TheVariants as S
+use Rattle.terms.specs.declared.text.Style.{Style}
+use Rattle.terms.specs.Token.{sizes, len_in}
+use Rattle.terms.specs.declared.text.Token.{Token}
+use Rattle.terms.specs.declared.text.Token.TheVariants.{Text, BlockStart, BlockEnd}
 use Rattle.rules.specs.Content.{grown, extend}
 use Rattle.rules.proofs.Wholes.{sizes-append}
-use Rattle.buffer.specs.declared.token.Token.{Token as CodeToken}
-use Rattle.buffer.specs.Tokens.{token_of}
-use Rattle.buffer.specs.Lengths.{len_in, end_len}
-
--- more of the code's tokens, as those of the rules
-pub tokens_append : (ts us more : List CodeToken) → us ≡ ts ++ more → map token_of us ≡ map token_of ts ++ map token_of more
-tokens_append ts us more e = ap (map token_of) e ∙ map-append token_of ts more
+use Rattle.buffer.specs.Lengths.{end_len}
 
 grown_more : (t : Token) (st : Style) (n : ℕ) → 1 ≤ length (grown t st n)
 grown_more (Text s m) st n =
-    elim (eqb (S.number s) (S.number st)) as (λ b. 1 ≤ length (cond b (Text st (m + n) ∷ []) (Text s m ∷ Text st n ∷ [])))
+    elim (eqb (style_number s) (style_number st)) as (λ b. 1 ≤ length (if b then Text st (m + n) ∷ [] else Text s m ∷ Text st n ∷ []))
     [ true ↦ omega arith | false ↦ omega arith ]
-grown_more (Start b) st n = omega arith
-grown_more (End b) st n = omega arith
+grown_more (BlockStart b) st n = omega arith
+grown_more (BlockEnd b) st n = omega arith
 
 pub extend_more : (ts : List Token) (st : Style) (n : ℕ) → length ts ≤ length (extend ts st n)
 unfolding extend
@@ -27,35 +23,31 @@ extend_more [] st n = omega arith
 extend_more (t ∷ []) st n = omega (arith, grown_more t st n)
 extend_more (t ∷ (u ∷ ts)) st n = omega (arith, extend_more (u ∷ ts) st n)
 
-pub end_len-none : (ts : List Token) (st : Style) → length ts ≡ 0 → None ≡ end_len ts st
-end_len-none [] st e = refl
-end_len-none (t ∷ ts) st e = absurd (omega arith)
-
 -- the last of the code's tokens, by its place
-pub end_len_of : (ts : List CodeToken) (k : ℕ) (t : CodeToken) (st : Style) → length ts ≡ suc k → t ≡ get_or ts k t → len_in (token_of t) st ≡ end_len (map token_of ts) st
+pub end_len_of : (ts : List Token) (k : ℕ) (t : Token) (st : Style) → length ts ≡ suc k → t ≡ get_or ts k t → len_in t st ≡ end_len ts st
 end_len_of [] k t st l e = absurd (omega arith)
-end_len_of (u ∷ []) zero t st l e = ap (λ v. len_in (token_of v) st) e
+end_len_of (u ∷ []) zero t st l e = ap (λ v. len_in v st) e
 end_len_of (u ∷ []) (suc k) t st l e = absurd (omega arith)
 end_len_of (u ∷ (v ∷ ts)) zero t st l e = absurd (omega arith)
 end_len_of (u ∷ (v ∷ ts)) (suc k) t st l e = end_len_of (v ∷ ts) k t st (omega arith) e
 
 grown-some : (t : Token) (st : Style) (m n : ℕ) → Some m ≡ len_in t st → grown t st n ≡ Text st (m + n) ∷ []
-grown-some (Text s k) st m n e = go (eqb (S.number s) (S.number st)) e
+grown-some (Text s k) st m n e = go (eqb (style_number s) (style_number st)) e
   where
-    go : (b : Bool) → Some m ≡ cond b (Some k) None → cond b (Text st (k + n) ∷ []) (Text s k ∷ Text st n ∷ []) ≡ Text st (m + n) ∷ []
+    go : (b : Bool) → Some m ≡ (if b then Some k else None) → (if b then Text st (k + n) ∷ [] else Text s k ∷ Text st n ∷ []) ≡ Text st (m + n) ∷ []
     go true p = let h : m ≡ k = cc in cc
     go false p = cc
-grown-some (Start b) st m n e = cc
-grown-some (End b) st m n e = cc
+grown-some (BlockStart b) st m n e = cc
+grown-some (BlockEnd b) st m n e = cc
 
 grown-none : (t : Token) (st : Style) (n : ℕ) → None ≡ len_in t st → grown t st n ≡ t ∷ Text st n ∷ []
-grown-none (Text s k) st n e = go (eqb (S.number s) (S.number st)) e
+grown-none (Text s k) st n e = go (eqb (style_number s) (style_number st)) e
   where
-    go : (b : Bool) → None ≡ cond b (Some k) None → cond b (Text st (k + n) ∷ []) (Text s k ∷ Text st n ∷ []) ≡ Text s k ∷ Text st n ∷ []
+    go : (b : Bool) → None ≡ (if b then Some k else None) → (if b then Text st (k + n) ∷ [] else Text s k ∷ Text st n ∷ []) ≡ Text s k ∷ Text st n ∷ []
     go true p = cc
     go false p = refl
-grown-none (Start b) st n e = refl
-grown-none (End b) st n e = refl
+grown-none (BlockStart b) st n e = refl
+grown-none (BlockEnd b) st n e = refl
 
 -- where the last token is a text in the style, it grows
 pub extend-some : (ts : List Token) (k : ℕ) (st : Style) (m n : ℕ) → length ts ≡ suc k → Some m ≡ end_len ts st → extend ts st n ≡ set ts k (Text st (m + n))
@@ -74,13 +66,13 @@ extend-none (t ∷ []) st n e = grown-none t st n e
 extend-none (t ∷ (u ∷ ts)) st n e = ap (λ xs. t ∷ xs) (extend-none (u ∷ ts) st n e)
 
 len_in-size : (t : Token) (st : Style) (m : ℕ) → Some m ≡ len_in t st → m ≡ sizes (t ∷ [])
-len_in-size (Text s k) st m e = go (eqb (S.number s) (S.number st)) e
+len_in-size (Text s k) st m e = go (eqb (style_number s) (style_number st)) e
   where
-    go : (b : Bool) → Some m ≡ cond b (Some k) None → m ≡ k + 0
+    go : (b : Bool) → Some m ≡ (if b then Some k else None) → m ≡ k + 0
     go true p = let h : m ≡ k = cc in omega arith
     go false p = let z : ◌≡◌ {A = ℕ} 0 1 = cc in absurd (omega arith)
-len_in-size (Start b) st m e = let z : ◌≡◌ {A = ℕ} 0 1 = cc in absurd (omega arith)
-len_in-size (End b) st m e = let z : ◌≡◌ {A = ℕ} 0 1 = cc in absurd (omega arith)
+len_in-size (BlockStart b) st m e = let z : ◌≡◌ {A = ℕ} 0 1 = cc in absurd (omega arith)
+len_in-size (BlockEnd b) st m e = let z : ◌≡◌ {A = ℕ} 0 1 = cc in absurd (omega arith)
 
 -- the last token's length is within the sum, and there is a last token
 pub end_len-some : (ts : List Token) (st : Style) (m : ℕ) → Some m ≡ end_len ts st → (m ≤ sizes ts) × (1 ≤ length ts)
@@ -91,22 +83,22 @@ end_len-some (t ∷ (u ∷ ts)) st m e =
     let k = sizes-append (t ∷ []) (u ∷ ts) in
     (omega arith, omega arith)
 
-same_number : (st : Style) → eqb (S.number st) (S.number st) ≡ true
-same_number S.text = refl
-same_number S.emphasis = refl
-same_number S.literal = refl
-same_number S.metavar = refl
-same_number S.invalid = refl
+same_number : (st : Style) → eqb (style_number st) (style_number st) ≡ true
+same_number S.Text = refl
+same_number S.Emphasis = refl
+same_number S.Literal = refl
+same_number S.Metavar = refl
+same_number S.Invalid = refl
 
 grown_joins : (t : Token) (st : Style) (m n : ℕ) → extend (grown t st m) st n ≡ grown t st (m + n)
 unfolding extend
-grown_joins (Text s k) st m n = go (eqb (S.number s) (S.number st))
+grown_joins (Text s k) st m n = go (eqb (style_number s) (style_number st))
   where
-    go : (b : Bool) → extend (cond b (Text st (k + m) ∷ []) (Text s k ∷ Text st m ∷ [])) st n ≡ cond b (Text st (k + (m + n)) ∷ []) (Text s k ∷ Text st (m + n) ∷ [])
+    go : (b : Bool) → extend (if b then Text st (k + m) ∷ [] else Text s k ∷ Text st m ∷ []) st n ≡ (if b then Text st (k + (m + n)) ∷ [] else Text s k ∷ Text st (m + n) ∷ [])
     go true = simp (same_number st, add_assoc)
     go false = simp (same_number st)
-grown_joins (Start b) st m n = simp (same_number st)
-grown_joins (End b) st m n = simp (same_number st)
+grown_joins (BlockStart b) st m n = simp (same_number st)
+grown_joins (BlockEnd b) st m n = simp (same_number st)
 
 extend_front : (t : Token) (us : List Token) (st : Style) (n : ℕ) → 1 ≤ length us → extend (t ∷ us) st n ≡ t ∷ extend us st n
 unfolding extend

@@ -1,10 +1,7 @@
-pub mod Steps
-pub mod Nesting
-pub mod Whole
+pub mod Fours
 pub mod Lawful
-pub mod Numbered
 pub mod Cutting
-pub mod Opened
+pub mod WholeNote
 pub mod Growth
 pub mod Writing
 pub mod Held

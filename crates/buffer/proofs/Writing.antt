@@ -1,8 +1,11 @@
 -- The laws of writes, one behind the other: what they make of a content, and that what does not fit never fits with more behind it.
 use Rattle.std.proofs.Common.{◌≡◌, ℕ, ◌+◌, ◌<◌, ◌≤◌, min, false, leb, ◌⊎◌, List, [], ◌∷◌, ◌++◌, length, refl, inl, inr, ⊎_elim, append_assoc, arith, length-append}
+use Rattle.std.proofs.lemmas.List.{append-nil}
 use Rattle.std.proofs.lemmas.Bool.{leb-false, lt-leb, and_left, and_right, and_cases}
-use Rattle.rules.specs.Style.{Style}
-use Rattle.rules.specs.Notes.{Token, Note}
+use Rattle.terms.specs.declared.text.Style.{Style}
+use Rattle.terms.specs.declared.text.Token.{Token}
+use Rattle.rules.specs.Notes.{Note}
+use Rattle.rules.specs.Tree.{no_note}
 use Rattle.rules.specs.Content.{Content, Limits, Op, tok, str, raw, extend, apply, applies, fits}
 use Rattle.buffer.specs.Contents.{Over}
 use Rattle.buffer.proofs.Growth.{extend_more, extend_joins}
@@ -29,10 +32,6 @@ over_cases l c h =
 pub over-fits : (l : Limits) (c : Content) → Over l c → fits l c ≡ false
 unfolding Over
 over-fits l c h = h
-
-pub fits-over : (l : Limits) (c : Content) → fits l c ≡ false → Over l c
-unfolding Over
-fits-over l c h = h
 
 -- a write makes neither count less
 apply_more : (c : Content) (op : Op) → (length c.tokens ≤ length (apply c op).tokens) × (length c.bytes ≤ length (apply c op).bytes)
@@ -95,6 +94,11 @@ raw_over_tokens l c n h = over_tokens l (apply c (raw n)) (simp length-append (o
 pub raw_over_bytes : (l : Limits) (c : Content) (n : Note) → l.bytes < length c.bytes + length n.bytes → Over l (apply c (raw n))
 unfolding apply
 raw_over_bytes l c n h = over_bytes l (apply c (raw n)) (simp length-append (omega arith))
+
+-- a note with nothing in it leaves what stands there
+pub raw_nothing : (c : Content) → c ≡ apply c (raw no_note)
+unfolding apply
+raw_nothing c = simp append-nil
 
 -- what a writer that is made of others answers by: `search (rules, writes)`
 pub ruleset writes = (applies-++, over-apply, over-applies, apply_joins, over_first, over_second, over_inner)

@@ -1,6 +1,5 @@
-pub mod Tokens
 pub mod Marks
-pub mod Places
-pub mod Stores
+pub mod Walks
 pub mod Lengths
 pub mod Contents
+pub mod Sheets

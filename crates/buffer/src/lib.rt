@@ -5,7 +5,7 @@ pub mod check;
 mod doc;
 mod mark;
 mod metavar;
+pub mod note;
 pub mod sheet;
 pub mod store;
-pub mod token;
 mod write;

@@ -1,12 +1,12 @@
 // How a metavar is written.
 ghost use Rattle.std.specs.Prelude.{◌≡◌, [], ◌∷◌, ◌++◌, codes};
-ghost use Rattle.rules.specs.Lists.{all};
-ghost use Rattle.rules.specs.Style as S;
+ghost use Rattle.std.specs.List.{list_all};
+ghost use Rattle.terms.specs.declared.text.Style.TheVariants as S;
 ghost use Rattle.rules.specs.Content as C;
 ghost use Rattle.buffer.specs.Contents.{Wrote};
 
 use crate::sheet::{Full, Sheet};
-use crate::token::Style;
+use terms::text::Style;
 
 impl Sheet {
     // A metavar of capitals, digits, - and _ stands as it is, any other between < and >.
@@ -21,7 +21,7 @@ impl Sheet {
     }
 
     fn enclosed(&mut self, m: &[u8]) -> Result<(), Full>
-        ensures { Wrote self.old (C.str S.metavar (codes "<" ++ (m.now ++ codes ">")) ∷ []) self.new result }
+        ensures { Wrote self.old (C.str S.Metavar (codes "<" ++ (m.now ++ codes ">")) ∷ []) self.new result }
     {
         self.write_str(b"<", Style::Metavar)?;
         self.write_str(m, Style::Metavar)?;
@@ -30,18 +30,8 @@ impl Sheet {
 }
 
 fn is_bare(m: &[u8]) -> bool
-    ensures { result ≡ all C.bare_byte m.now }
+    ensures { result ≡ list_all C.bare_byte m.now }
 {
-    for b in m {
-        if !is_bare_byte(*b) {
-            return false;
-        }
-    }
-    true
-}
-
-fn is_bare_byte(b: u8) -> bool
-    ensures { result ≡ C.bare_byte b }
-{
-    matches!(b, b'A'..=b'Z' | b'0'..=b'9' | b'-' | b'_')
+    m.iter()
+        .all(|b| matches!(b, b'A'..=b'Z' | b'0'..=b'9' | b'-' | b'_'))
 }

@@ -1,4 +1,3 @@
 pub mod Stretches
 pub mod Filling
-pub mod Printing
 pub mod Lines

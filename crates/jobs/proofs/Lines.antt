@@ -5,7 +5,8 @@ use Rattle.rules.specs.Plain.{Plain, new}
 use Rattle.rules.specs.Reading.{reading_of}
 use Rattle.rules.specs.Content.{Content, Limits, line}
 use Rattle.meta.specs.Rejections.{by_rule}
-use Rattle.jobs.specs.Jobs.{Filled, filled, records_in, usage_rule, usage_line, unless_ended, last_line, line_job}
+use Rattle.usage.specs.Calls.{usage_rule}
+use Rattle.jobs.specs.Jobs.{Filled, filled, records_in, usage_line, unless_ended, last_line, line_job}
 
 -- where no record was rejected, the line is that of the last node
 last-line-is : (bench : ℕ) (l : Limits) (f : Filled) (p : Plain) (n root : ℕ) → f.rejected ≡ None → p ≡ f.left → n ≡ length p.nodes → root ≡ n - 1
@@ -14,10 +15,6 @@ last-line-is bench l f p n root none left long at =
     ap (λ k. usage_line bench l p k) (at ∙ ap (λ k. k - 1) long)
     ∙ (ap (λ q. usage_line bench l q (length q.nodes - 1)) left
     ∙ sym (ap (λ o. unless_ended o (usage_line bench l f.left (length f.left.nodes - 1))) none))
-
--- a rejected record
-pub line-ended : (bench : ℕ) (l : Limits) (f : Filled) (e : Rejection) → f.rejected ≡ Some e → Err e ≡ last_line bench l f
-line-ended bench l f e some = sym (ap (λ o. unless_ended o (usage_line bench l f.left (length f.left.nodes - 1))) some)
 
 -- a line that is refused
 pub line_refused : (bench : ℕ) (l : Limits) (f : Filled) (p : Plain) (n root : ℕ) (e : Rejection) → f.rejected ≡ None → p ≡ f.left → n ≡ length p.nodes → root ≡ n - 1

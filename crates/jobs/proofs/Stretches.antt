@@ -1,7 +1,6 @@
 -- The records of a file, one by one.
-use Rattle.std.proofs.Common.{◌≡◌, ℕ, suc, ◌+◌, ◌-◌, ◌/◌, ◌<◌, ◌≤◌, min, Bool, false, eqb, ◌⊎◌, List, [], ◌∷◌, length, take, drop, sym, ap, ◌∙◌, inl, inr, arith, length-drop}
-use Rattle.std.proofs.lemmas.Bool.{cases_lt, eqb-false}
-use Rattle.std.proofs.lemmas.List.{take_all, drop_all}
+use Rattle.std.proofs.Common.{◌≡◌, ℕ, suc, ◌+◌, ◌-◌, ◌/◌, ◌<◌, min, List, [], ◌∷◌, ◌++◌, length, take, drop, sym, ap, ◌∙◌, arith, length-drop}
+use Rattle.std.proofs.lemmas.List.{take_min, drop_min, take_at, drop_at}
 use Rattle.rules.specs.Lists.{stretches}
 use Rattle.jobs.specs.Jobs.{records_in}
 
@@ -20,34 +19,11 @@ records_more bs h =
     ap (λ n. stretches 128 n bs) (count_more (length bs) h)
     ∙ ap (λ n. take 128 bs ∷ stretches 128 ((n + 127) / 128) (drop 128 bs)) (sym (length-drop 128 bs))
 
--- the part of a list up to so many, or to its end
-pub take_least : (n : ℕ) (bs : List ℕ) → take (min (length bs) n) bs ≡ take n bs
-take_least n bs = go (cases_lt (length bs) n)
-  where
-    go : (length bs < n) ⊎ (n ≤ length bs) → take (min (length bs) n) bs ≡ take n bs
-    go (inl h) =
-        let low : min (length bs) n ≡ length bs = omega arith in
-        ap (λ k. take k bs) low ∙ (take_all (length bs) bs (omega arith) ∙ sym (take_all n bs (omega arith)))
-    go (inr h) =
-        let high : min (length bs) n ≡ n = omega arith in
-        ap (λ k. take k bs) high
-
-pub drop_least : (n : ℕ) (bs : List ℕ) → drop (min (length bs) n) bs ≡ drop n bs
-drop_least n bs = go (cases_lt (length bs) n)
-  where
-    go : (length bs < n) ⊎ (n ≤ length bs) → drop (min (length bs) n) bs ≡ drop n bs
-    go (inl h) =
-        let low : min (length bs) n ≡ length bs = omega arith in
-        ap (λ k. drop k bs) low ∙ (drop_all (length bs) bs (omega arith) ∙ sym (drop_all n bs (omega arith)))
-    go (inr h) =
-        let high : min (length bs) n ≡ n = omega arith in
-        ap (λ k. drop k bs) high
-
 -- the records of a file that is not empty, cut behind its first
-pub records-cut : (bs front back : List ℕ) (k : ℕ) (none : Bool) → none ≡ eqb (length bs) 0 → none ≡ false
-    → k ≡ min (length bs) 128 → front ≡ take k bs → back ≡ drop k bs → records_in bs ≡ front ∷ records_in back
-records-cut bs front back k none t n e f b =
-    let some : 0 < length bs = omega (arith, eqb-false (length bs) 0 (sym t ∙ n)) in
-    let one : take 128 bs ≡ front = sym (f ∙ (ap (λ n. take n bs) e ∙ take_least 128 bs)) in
-    let others : drop 128 bs ≡ back = sym (b ∙ (ap (λ n. drop n bs) e ∙ drop_least 128 bs)) in
+pub records-cut : (bs front back : List ℕ) (size : ℕ) → size ≡ 128 → bs ≡ front ++ back → length front ≡ min size (length bs) → 0 < length bs
+    → records_in bs ≡ front ∷ records_in back
+records-cut bs front back size s cut long some =
+    let many : length front ≡ min 128 (length bs) = long ∙ ap (λ n. min n (length bs)) s in
+    let one : take 128 bs ≡ front = sym (take_min 128 bs) ∙ (ap (take (min 128 (length bs))) cut ∙ take_at front back (min 128 (length bs)) many) in
+    let others : drop 128 bs ≡ back = sym (drop_min 128 bs) ∙ (ap (drop (min 128 (length bs))) cut ∙ drop_at front back (min 128 (length bs)) many) in
     records_more bs some ∙ (ap (λ l. l ∷ records_in (drop 128 bs)) one ∙ ap (λ l. front ∷ records_in l) others)

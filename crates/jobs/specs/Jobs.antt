@@ -1,15 +1,15 @@
 -- What the programs do with the bytes of their files.
 use Rattle.std.specs.Prelude.{ℕ, ◌+◌, ◌-◌, ◌/◌, List, [], ◌∷◌, length, Some, None, Ok, Err, Option, Result}
-use Rattle.rules.specs.Lists.{first, stretches}
+use Rattle.rules.specs.Lists.{stretches}
 use Rattle.rules.specs.Rejection.{Rejection}
 use Rattle.rules.specs.Plain.{Plain, new, add_rule, added}
 use Rattle.rules.specs.Reading.{reading_of}
 use Rattle.rules.specs.Content.{Content, Limits, line}
-use Rattle.rules.specs.Table.{no_node, small_bench, too_long}
-use Rattle.buffer.specs.declared.sheet.Sheet.{Sheet}
-use Rattle.buffer.specs.Contents.{content_of}
-use Rattle.meta.specs.declared.rejection.Rejection.{Rejection as CodeRejection}
+use Rattle.buffer.specs.Contents.{SheetState}
 use Rattle.meta.specs.Rejections.{rejection_of, by_rule}
+use Rattle.usage.specs.Calls.{usage_rule}
+use Rattle.jobs.specs.declared.line.LineError.{LineError}
+use Rattle.jobs.specs.declared.line.LineError.TheVariants.{Refused, NoMemory}
 
 -- the records in the bytes of a file: stretches of 128 bytes; a broken tail is one more
 unfoldable pub records_in : List ℕ → List (List ℕ)
@@ -30,10 +30,6 @@ abbrev pub filled : Plain → List (List ℕ) → Filled
 filled p [] = record { left = p; rejected = None }
 filled p (r ∷ rs) = unless_rejected (add_rule p r) p (filled (added p r) rs)
 
--- the first row that the usage line of a root breaks, on a bench and a sheet of so much room
-abbrev pub usage_rule : (bench : ℕ) → Limits → Plain → (root : ℕ) → Option Rejection
-usage_rule bench l p root = first (no_node p root ∷ small_bench p root bench ∷ too_long l (line (reading_of p root)) root ∷ [])
-
 -- the usage line of a root, or why there is none
 abbrev pub usage_line : (bench : ℕ) → Limits → Plain → (root : ℕ) → Result Content Rejection
 usage_line bench l p root = by_rule (usage_rule bench l p root) (line (reading_of p root))
@@ -51,7 +47,8 @@ last_line bench l f = unless_ended f.rejected (usage_line bench l f.left (length
 abbrev pub line_job : (marks text bytes : List ℕ) → Result Content Rejection
 line_job marks text bytes = last_line 770 (record { tokens = 4096; bytes = 32768 }) (filled (new 256 marks text) (records_in bytes))
 
--- what an answer shows: what stands on its sheet, or its rejection by its four numbers
-abbrev pub seen : Result Sheet CodeRejection → Result Content Rejection
-seen (Ok s) = Ok (content_of s)
-seen (Err e) = Err (rejection_of e)
+-- what an answer shows: what stands on its sheet, or its rejection by its four numbers; nothing, where memory ran out
+abbrev pub seen : Result SheetState LineError → Option (Result Content Rejection)
+seen (Ok s) = Some (Ok s.content)
+seen (Err (Refused e)) = Some (Err (rejection_of e))
+seen (Err (NoMemory e)) = None

@@ -1,6 +1,5 @@
 // Filling a book from the bytes of a file.
 ghost use Rattle.std.specs.Prelude.{◌≡◌};
-ghost use Rattle.meta.specs.View.{plain_of};
 ghost use Rattle.meta.specs.Rejections.{answer_of, by_rule};
 ghost use Rattle.jobs.specs.Jobs.{records_in, filled};
 
@@ -10,14 +9,11 @@ use meta::rejection::Rejection;
 
 // Adds the records in the bytes one behind another, until one is rejected; a broken tail is one more.
 pub fn fill(book: &mut Book, records: &[u8]) -> Result<(), Rejection>
-    ensures value { answer_of result ≡ by_rule (filled (plain_of book.old) (records_in records.now)).rejected tt }
-    ensures after { plain_of book.new ≡ (filled (plain_of book.old) (records_in records.now)).left }
+    ensures value { answer_of result ≡ by_rule (filled book.old (records_in records.now)).rejected tt }
+    ensures after { book.new ≡ (filled book.old (records_in records.now)).left }
 {
-    let mut rest = records;
-    while !rest.is_empty() {
-        let (record, more) = rest.split_at(rest.len().min(RECORD_SIZE));
+    for record in records.chunks(RECORD_SIZE) {
         book.add(record)?;
-        rest = more;
     }
     Ok(())
 }

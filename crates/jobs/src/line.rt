@@ -1,8 +1,7 @@
 // The usage line of the last record of a book.
-ghost use Rattle.std.specs.Prelude.{◌≡◌, IfOk};
-ghost use Rattle.buffer.specs.Contents.{limits_of};
-ghost use Rattle.meta.specs.View.{plain_of};
-ghost use Rattle.jobs.specs.Jobs.{records_in, filled, last_line, line_job, seen};
+ghost use Rattle.std.specs.Prelude.{◌≡◌, IfOk, IfSome};
+ghost use Rattle.jobs.specs.declared.line.LineError.TheVariants.{Refused, NoMemory};
+ghost use Rattle.jobs.specs.Jobs.{line_job, seen};
 ghost use Rattle.jobs.specs.Printed.{shown_answer};
 
 use crate::fill::fill;
@@ -14,19 +13,46 @@ use normal::bench::Bench;
 use std::alloc::{AllocError, Global};
 use usage::usage::usage;
 
-// The line that the records in the bytes lead to, over the store of marks and text.
+// Why there is no usage line.
+#[derive(Clone, Copy, Debug, PartialEq, Eq)]
+pub enum LineError {
+    Refused(Rejection),
+    NoMemory(AllocError),
+}
+
+impl From<Rejection> for LineError {
+    ghost from_gives = { λ r e. e ≡ Refused r };
+
+    fn from(reason: Rejection) -> LineError {
+        LineError::Refused(reason)
+    }
+}
+
+impl From<AllocError> for LineError {
+    ghost from_gives = { λ reason e. e ≡ NoMemory reason };
+
+    fn from(reason: AllocError) -> LineError {
+        LineError::NoMemory(reason)
+    }
+}
+
+// The line that the records in the bytes lead to, over the store of marks and text, which come apart, as callers have
+// them.
 pub fn usage_line(
     heap: Global,
     records: &[u8],
     marks: &[u8],
     text: &[u8],
-) -> Result<Result<Sheet, Rejection>, AllocError>
-    ensures made { IfOk result (λ x. seen x ≡ line_job marks.now text.now records.now) }
+) -> Result<Sheet, LineError>
+    ensures made { IfSome (seen result) (λ x. x ≡ line_job marks.now text.now records.now) }
 {
-    let book = Book::new(heap, Book::MOST, marks, text)?;
-    let bench = Bench::new(heap, Bench::MOST)?;
-    let sheet = Sheet::new(heap, MOST_TOKENS, MOST_BYTES)?;
-    Ok(last_line(book, records, bench, sheet))
+    let mut book = Book::new(heap, Book::MOST, marks, text)?;
+    let mut bench = Bench::new(heap, Bench::MOST)?;
+    let mut sheet = Sheet::new(heap, MOST_TOKENS, MOST_BYTES)?;
+    fill(&mut book, records)?;
+    let root = book.len().saturating_sub(1);
+    usage(&book, root, &mut bench, &mut sheet)?;
+    Ok(sheet)
 }
 
 // The printout of that line, or of why there is none.
@@ -36,25 +62,13 @@ pub fn printed_line(
     marks: &[u8],
     text: &[u8],
 ) -> Result<Vec<u8>, AllocError>
-    ensures made { IfOk result (λ v. v.items ≡ shown_answer (line_job marks.now text.now records.now)) }
+    ensures made { IfOk result
+        (λ v. v.items ≡ shown_answer (line_job marks.now text.now records.now)) }
 {
-    match usage_line(heap, records, marks, text)? {
+    // Each way prints another thing, so each has its arm.
+    match usage_line(heap, records, marks, text) {
         Ok(sheet) => print_sheet(heap, &sheet),
-        Err(e) => Ok(print_rejection(heap, e)?.into_bytes()),
+        Err(LineError::Refused(rejection)) => Ok(print_rejection(heap, rejection)?.into_bytes()),
+        Err(LineError::NoMemory(reason)) => Err(reason),
     }
-}
-
-// The line of the last node of the book, once the records have filled it.
-fn last_line(
-    mut book: Book,
-    records: &[u8],
-    mut bench: Bench,
-    mut sheet: Sheet,
-) -> Result<Sheet, Rejection>
-    ensures { seen result ≡ last_line bench.places (limits_of sheet) (filled (plain_of book) (records_in records.now)) }
-{
-    fill(&mut book, records)?;
-    let root = book.len().saturating_sub(1);
-    usage(&book, root, &mut bench, &mut sheet)?;
-    Ok(sheet)
 }

@@ -1,12 +1,9 @@
 pub mod Steps
-pub mod Rows
 pub mod Rising
-pub mod Moves
 pub mod Loose
 pub mod Keeping
-pub mod Decided
 pub mod Stands
-pub mod Answered
 pub mod Placed
 pub mod Decoded
 pub mod Read
+pub mod Added

@@ -2,7 +2,7 @@
 use Rattle.std.proofs.Common.{◌≡◌, ℕ, ◌+◌, ◌-◌, ◌<◌, ◌≤◌, Bool, true, false, not, ◌||◌, List, [], ◌∷◌, ◌++◌, length, take, drop, filter, sym, refl, ap, ◌∙◌, add-one, arith}
 use Rattle.std.proofs.lemmas.Bool.{cond-true, and_parts, and_from, leb-true, le-leb, or_from}
 use Rattle.std.proofs.lemmas.List.Elements.{filter-append}
-use Rattle.std.proofs.ByRecursion.{All-drop}
+use Rattle.rules.proofs.Each.{All-drop}
 use Rattle.std.proofs.lemmas.List.{length_push, map_push, drop-append-le, take-append-le, take_all, drop_at, length-drop}
 use Rattle.rules.specs.Plain.{has_parent, upto, unplaced}
 use Rattle.rules.specs.Plain as P

@@ -1,23 +1,20 @@
 -- What `place` does to the three lists of a book, and that it keeps what always holds of them.
-use Rattle.std.proofs.Common.{◌≡◌, ℕ, ◌+◌, ◌-◌, ◌≤◌, true, false, List, [], ◌∷◌, ◌++◌, length, take, drop, Ok, vec_items, vec_len, sym, ap, ◌∙◌, subst, arith}
+use Rattle.std.proofs.Common.{◌≡◌, ℕ, ◌+◌, ◌-◌, ◌<◌, ◌≤◌, min, true, false, List, [], ◌∷◌, ◌++◌, length, take, drop, Some, None, vec_items, vec_len, sym, ap, ◌∙◌, subst, arith}
 use Rattle.std.proofs.lemmas.List.{length-map, length-drop, length-append}
+use Rattle.std.specs.Option.{option_map}
 use Rattle.rules.specs.Notes.{Note, notes_of}
-use Rattle.rules.specs.Records.{kind_of}
-use Rattle.rules.specs.Plain.{new, has_parent, unplaced, last, taken, grown}
+use Rattle.rules.specs.Records.{kind_of, takes}
+use Rattle.rules.specs.Plain.{Plain, new, has_parent, unplaced, last, taken, grown, add_rule, unless}
 use Rattle.rules.specs.Plain as P
 use Rattle.rules.specs.Sound.{Sound}
-use Rattle.buffer.specs.Stores.{notes_in}
-use Rattle.meta.specs.declared.book.Book.{Book}
+use Rattle.meta.specs.declared.book.Book.TheInside.{Inside}
 use Rattle.meta.specs.declared.book.Node.{Node}
-use Rattle.meta.specs.Admitted.{admitted_to}
 use Rattle.meta.specs.Shape.{node_of, nodes_of, plain_from, spanned}
-use Rattle.meta.specs.View.{plain_of}
-use Rattle.meta.proofs.Decided.{accepted}
-use Rattle.rules.proofs.Kept.{new_sound, added_sound}
+use Rattle.meta.specs.View.{plain_of, IsBook}
+use Rattle.rules.proofs.Kept.{passes, new_sound, added_sound}
 use Rattle.meta.proofs.Keeping.{next_free}
 use Rattle.meta.proofs.Loose.{unplaced-push, spanned-push, nodes_push}
-use Rattle.meta.proofs.Stands.{book_sound}
-use Rattle.meta.proofs.Answered.{added_is, enough_wait}
+use Rattle.meta.proofs.Stands.{nodes_long, unplaced_long}
 
 -- nothing yet
 pub spanned-none : (m : ℕ) {ns : List Node} → ns ≡ [] → spanned m ns ≡ true
@@ -85,46 +82,70 @@ module _ {ns ns' : List Node} {ks ks' us us' : List ℕ} {n : Node} {m k top : �
       ap (drop m) s.stack ∙ ap (λ t. drop t (unplaced (nodes_of ns ks))) cut ∙ sym t in
       ap (λ (x : List P.Node). record { places = places; notes = notes; nodes = x }) (nodes_after ∙ ap (λ x. nodes_of ns ks ++ x ∷ []) (same_node e kids))
 
+-- the children of a record that no row rejects are the last unplaced nodes, as many as it takes
+pub record Taken (p : Plain) (r : List ℕ) (k : ℕ) : Type 0 where
+  pub free : length p.nodes < min p.places 256
+  pub within : k ≤ length (unplaced p.nodes)
+  pub children : taken p r (kind_of r) ≡ last k (unplaced p.nodes)
+
+pub taken_by : (p : Plain) (r : List ℕ) (k : ℕ) → add_rule p r ≡ None → Some k ≡ option_map (λ o. takes o r) (kind_of r) → Taken p r k
+taken_by p r k rule t =
+    let a = passes p r rule in
+    let e : Some k ≡ Some (takes a.kind r) = t ∙ ap (option_map (λ o. takes o r)) a.known in
+    let same : k ≡ takes a.kind r = cc in
+    record {
+      free = a.room;
+      within = omega (arith, a.enough);
+      children = ap (taken p r) a.known ∙ ap (λ n. last n (unplaced p.nodes)) (sym same);
+    }
+
 -- what holds of a book after a node more: its runs and its stack, what it is, and what every book keeps
-pub record Placed (b : Book) (r : List ℕ) (ns : List Node) (ks us : List ℕ) : Type 0 where
+pub record Placed (b : Inside) (p : Plain) (r : List ℕ) (ns : List Node) (ks us : List ℕ) : Type 0 where
   pub runs : spanned (length ks) ns ≡ true
   pub stack : us ≡ unplaced (nodes_of ns ks)
-  pub grows : plain_from b.places (notes_in b.store) ns ks ≡ grown (plain_of b) r
-  pub sound : Sound (plain_from b.places (notes_in b.store) ns ks)
+  pub grows : plain_from b.places b.store ns ks ≡ grown p r
+  pub sound : Sound (plain_from b.places b.store ns ks)
 
--- from what the calls of `place` ensure
-pub placed :
-    (b : Book) (r : List ℕ) (n : Node) (k top : ℕ) {ns' : List Node} {ks' us' mid : List ℕ}
-    → Ok k ≡ admitted_to (plain_of b) r
-    → n.«record» ≡ r
-    → ns' ≡ vec_items b.nodes ++ n ∷ []
-    → ks' ≡ vec_items b.kids ++ drop (vec_len b.unplaced - k) (vec_items b.unplaced)
-    → mid ≡ take (vec_len b.unplaced - k) (vec_items b.unplaced)
-    → us' ≡ mid ++ top ∷ []
-    → top ≡ vec_len b.nodes
-    → n.first ≡ vec_len b.kids
-    → n.count ≡ k
-    → Placed b r ns' ks' us'
-placed b r n k top {ns'} {ks'} {us'} ok whole nodes kids left loosened numbered begins counts =
-    let a = accepted (plain_of b) r k ok in
-    let enough : k ≤ vec_len b.unplaced = enough_wait b r k ok in
-    let s : Step (vec_items b.nodes) ns' (vec_items b.kids) ks' (vec_items b.unplaced) us' n (vec_len b.unplaced - k) k top =
-    record {
-      nodes = nodes;
-      kids = kids;
-      loosened = loosened ∙ ap (λ t. t ++ top ∷ []) left;
-      numbered = numbered ∙ b.nodes.ok.0;
-      split = omega (arith, b.unplaced.ok.0);
-      begins = begins ∙ b.kids.ok.0;
-      counts = counts;
-      runs = b.runs;
-      free = next_free (plain_of b) b.standing;
-      stack = b.stack;
-    } in
-    let more = grown-after s b.places (notes_in b.store) r whole a.takes in
-    record {
-      runs = runs_after s;
-      stack = stack_after s;
-      grows = more;
-      sound = subst Sound (added_is (plain_of b) r a.rule ∙ sym more) (added_sound (plain_of b) r (book_sound b));
-    }
+module _ (b : Inside) (holds : IsBook b) {p : Plain} (is : plain_of b ≡ p) (r : List ℕ) (k : ℕ) (rule : add_rule p r ≡ None) (takes : Some k ≡ option_map (λ o. takes o r) (kind_of r)) where
+  here : Taken (plain_of b) r k
+  here = taken_by (plain_of b) r k (ap (λ q. add_rule q r) is ∙ rule) takes
+
+  pub enough_wait : k ≤ vec_len b.unplaced
+  enough_wait = omega (arith, here.within, unplaced_long b holds)
+
+  pub is_free : vec_len b.nodes < min b.places 256
+  is_free = omega (arith, here.free, nodes_long b)
+
+  -- from what the calls of `place` ensure
+  pub placed :
+      (n : Node) (top : ℕ) {ns' : List Node} {ks' us' mid : List ℕ}
+      → n.«record» ≡ r
+      → ns' ≡ vec_items b.nodes ++ n ∷ []
+      → ks' ≡ vec_items b.kids ++ drop (vec_len b.unplaced - k) (vec_items b.unplaced)
+      → mid ≡ take (vec_len b.unplaced - k) (vec_items b.unplaced)
+      → us' ≡ mid ++ top ∷ []
+      → top ≡ vec_len b.nodes
+      → n.first ≡ vec_len b.kids
+      → n.count ≡ k
+      → Placed b p r ns' ks' us'
+  placed n top {ns'} {ks'} {us'} whole nodes kids left loosened numbered begins counts =
+      let s : Step (vec_items b.nodes) ns' (vec_items b.kids) ks' (vec_items b.unplaced) us' n (vec_len b.unplaced - k) k top =
+      record {
+        nodes = nodes;
+        kids = kids;
+        loosened = loosened ∙ ap (λ t. t ++ top ∷ []) left;
+        numbered = numbered ∙ b.nodes.ok.0;
+        split = omega (arith, enough_wait, b.unplaced.ok.0);
+        begins = begins ∙ b.kids.ok.0;
+        counts = counts;
+        runs = holds.runs;
+        free = next_free (plain_of b) holds.sound;
+        stack = holds.stack;
+      } in
+      let more = grown-after s b.places b.store r whole here.children ∙ ap (λ q. grown q r) is in
+      record {
+        runs = runs_after s;
+        stack = stack_after s;
+        grows = more;
+        sound = subst Sound (ap (λ o. unless o (grown p r) p) rule ∙ sym more) (added_sound p r (subst Sound is holds.sound));
+      }

@@ -1,14 +1,13 @@
 -- Lists of numbers that rise, and what is left of one once its last numbers are taken out.
-use Rattle.std.proofs.Common.{◌≡◌, ℕ, zero, suc, ◌<◌, Bool, true, false, cond, not, ◌||◌, eqb, List, [], ◌∷◌, take, drop, filter, refl, ap, ◌∙◌, arith}
+use Rattle.std.proofs.Common.{◌≡◌, ℕ, zero, suc, ◌<◌, Bool, true, false, if◌then◌else◌, not, ◌||◌, eqb, List, [], ◌∷◌, take, drop, filter, refl, ap, ◌∙◌, arith}
 use Rattle.std.proofs.lemmas.Bool.{eq-eqb, ne_eqb, cond-true, cond-false, or_left, or_right, or_from}
-use Rattle.std.proofs.ByRecursion.{All-weaker, All-drop}
-use Rattle.std.specs.List.{AllByRecursion as All}
-use Rattle.rules.specs.Lists.{any}
+use Rattle.rules.proofs.Each.{All-weaker, All-drop}
+use Rattle.std.specs.List.{AllByRecursion as All, list_any}
 use Rattle.rules.proofs.Kept.{Rises}
 
 -- a number is among these
 abbrev pub has : ℕ → List ℕ → Bool
-has i ks = any (eqb i) ks
+has i ks = list_any (eqb i) ks
 
 -- what is above every element is not among them, nor what is below
 pub has_not_above : (ks : List ℕ) (i : ℕ) → All (λ k. k < i) ks → has i ks ≡ false
@@ -38,11 +37,11 @@ kept_front (suc m) (x ∷ xs) (a, r) =
 pub kept_twice : (p q : ℕ → Bool) (xs : List ℕ) → filter (λ i. not (p i || q i)) xs ≡ filter (λ i. not (q i)) (filter (λ i. not (p i)) xs)
 kept_twice p q [] = refl
 kept_twice p q (x ∷ xs) =
-    elim (p x) as (λ t. cond (not (t || q x)) (x ∷ filter (λ i. not (p i || q i)) xs) (filter (λ i. not (p i || q i)) xs) ≡ filter (λ i. not (q i)) (cond (not t) (x ∷ filter (λ i. not (p i)) xs) (filter (λ i. not (p i)) xs))) [
+    elim (p x) as (λ t. (if not (t || q x) then x ∷ filter (λ i. not (p i || q i)) xs else filter (λ i. not (p i || q i)) xs) ≡ filter (λ i. not (q i)) (if not t then x ∷ filter (λ i. not (p i)) xs else filter (λ i. not (p i)) xs)) [
       | true ↦ kept_twice p q xs
-      | false ↦ ap (λ t. cond (not (q x)) (x ∷ t) t) (kept_twice p q xs)
+      | false ↦ ap (λ t. if not (q x) then x ∷ t else t) (kept_twice p q xs)
     ]
 
 pub kept_same : (p q : ℕ → Bool) → ((i : ℕ) → p i ≡ q i) → (xs : List ℕ) → filter p xs ≡ filter q xs
 kept_same p q e [] = refl
-kept_same p q e (x ∷ xs) = ap (λ t. cond t (x ∷ filter p xs) (filter p xs)) (e x) ∙ ap (λ t. cond (q x) (x ∷ t) t) (kept_same p q e xs)
+kept_same p q e (x ∷ xs) = ap (λ t. if t then x ∷ filter p xs else filter p xs) (e x) ∙ ap (λ t. if q x then x ∷ t else t) (kept_same p q e xs)

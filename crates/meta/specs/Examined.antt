@@ -1,37 +1,16 @@
--- The rules that one record keeps, whatever the book, as one answer.
-use Rattle.std.specs.Prelude.{ℕ, Bool, cond, ◌&&◌, List, Some, None, Ok, Err, Option, Result, nat_lt}
-use Rattle.rules.specs.Lists.{when}
-use Rattle.rules.specs.Rejection.{Rejection, reject, book}
-use Rattle.rules.specs.Kind.{Kind}
-use Rattle.rules.specs.Records.{bytes_of, value_of, name_byte, metavar_byte, variable_byte, is_word, is_short, kind_of, tidy, worded, noted, childed, takes}
-use Rattle.rules.specs.Records as R
-use Rattle.meta.specs.Rejections.{fault_number}
+-- What the answer about one record says of the rule of adding, whatever the book.
+use Rattle.std.specs.Prelude.{◌≡◌, ℕ, List, length, Some, Result, IfOk}
+use Rattle.std.specs.Option.{option_map}
+use Rattle.rules.specs.Records.{kind_of, takes}
+use Rattle.rules.specs.Plain.{Plain, unplaced, kind_rows}
+use Rattle.meta.specs.Admitted.{row_of}
 use Rattle.meta.specs.declared.rejection.Fault.{Fault}
-use Rattle.meta.specs.declared.rejection.Fault.TheVariants as F
 
--- each word keeps its rule, and so does the short
-abbrev pub words_kept : List ℕ → Bool
-words_kept r =
-    is_word name_byte (bytes_of R.name r) && is_word metavar_byte (bytes_of R.metavar r) && is_word variable_byte (bytes_of R.variable r)
-    && is_short (value_of R.short r)
+-- an answer is the rule's, in every book with so many notes and unplaced nodes
+abbrev pub ByRows : List ℕ → (notes waiting : ℕ) → Result ℕ Fault → Type 0
+ByRows r notes waiting result =
+    (p : Plain) → length p.notes ≡ notes → length (unplaced p.nodes) ≡ waiting → row_of p result ≡ kind_rows p r (kind_of r)
 
--- the fault of the first of four rules that does not hold, or else a number
-abbrev pub judged : (is_tidy is_worded is_noted is_childed : Bool) → ℕ → Result ℕ Fault
-judged is_tidy is_worded is_noted is_childed n =
-    cond is_tidy
-    (cond is_worded
-    (cond is_noted
-    (cond is_childed (Ok n) (Err F.Childless)) (Err F.Note)) (Err F.Word)) (Err F.Unused)
-
-abbrev pub examined_as : List ℕ → (notes : ℕ) → Option Kind → Result ℕ Fault
-examined_as r notes None = Err F.Kind
-examined_as r notes (Some k) = judged (tidy k r) (worded k r) (noted k r notes) (childed k r) (takes k r)
-
--- the fault of the first rule that a record breaks over so many notes, or else how many unplaced nodes it takes
-abbrev pub examined : List ℕ → (notes : ℕ) → Result ℕ Fault
-examined r notes = examined_as r notes (kind_of r)
-
--- the row of the table that a record breaks, by that answer, among so many nodes, so many of them unplaced
-abbrev pub row_of : (unplaced nodes : ℕ) → Result ℕ Fault → Option Rejection
-row_of unplaced nodes (Ok n) = when (nat_lt unplaced n) (reject (fault_number F.Unplaced) book nodes)
-row_of unplaced nodes (Err f) = Some (reject (fault_number f) book nodes)
+-- an accepted record takes as many unplaced nodes as its kind says
+abbrev pub Takes : List ℕ → Result ℕ Fault → Type 0
+Takes r result = IfOk result (λ n. Some n ≡ option_map (λ k. takes k r) (kind_of r))

@@ -1,10 +1,9 @@
 -- The items and tree nodes of the code over a plain book, as those of the rules.
-use Rattle.std.specs.Prelude.{ℕ, List, [], map, Some, None, Option}
+use Rattle.std.specs.Prelude.{ℕ, List, [], map, Some, None, Option, slice_get, unwrap_or}
 use Rattle.std.specs.Option.{option_map}
-use Rattle.rules.specs.Lists.{at, or_else}
+use Rattle.terms.specs.declared.kind.Field.TheVariants as F
+use Rattle.terms.specs.declared.kind.Field.{Field}
 use Rattle.rules.specs.Notes.{Note}
-use Rattle.rules.specs.Records.{Field}
-use Rattle.rules.specs.Records as R
 use Rattle.rules.specs.Plain.{Plain, Node}
 use Rattle.rules.specs.Tree.{Meta, Item, ShortLong, metas, word, no_note, tree_at}
 use Rattle.rules.specs.Tree as T
@@ -20,9 +19,9 @@ use Rattle.meta.specs.declared.item.Meta.TheVariants as CM
 
 -- the field that a part of a record is
 abbrev pub field_of : Part → Field
-field_of P.Name = R.name
-field_of P.Metavar = R.metavar
-field_of P.Variable = R.variable
+field_of P.Name = F.Name
+field_of P.Metavar = F.Metavar
+field_of P.Variable = F.Variable
 
 abbrev pub record_in : Option Node → List ℕ
 record_in None = []
@@ -30,7 +29,7 @@ record_in (Some n) = n.«record»
 
 -- the record of a node
 abbrev pub record_at : Plain → ℕ → List ℕ
-record_at p n = record_in (at p.nodes n)
+record_at p n = record_in (slice_get p.nodes n)
 
 -- the text of a word at its place
 abbrev pub word_at : Plain → Word → List ℕ
@@ -38,11 +37,11 @@ word_at p w = word (field_of w.part) (record_at p w.node)
 
 -- the note of a number; an absent one is empty
 abbrev pub note_numbered : Plain → ℕ → Note
-note_numbered p n = or_else (at p.notes n) no_note
+note_numbered p n = unwrap_or (slice_get p.notes n) no_note
 
 abbrev pub maybe_note : Plain → Option ℕ → Option Note
 maybe_note p None = None
-maybe_note p (Some n) = at p.notes n
+maybe_note p (Some n) = slice_get p.notes n
 
 abbrev pub name_in : Plain → CodeShortLong → ShortLong
 name_in p (CS.Short s) = T.Short s

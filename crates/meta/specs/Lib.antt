@@ -1,6 +1,6 @@
 pub mod Rejections
 pub mod Items
-pub mod Kinds
+pub mod Words
 pub mod Examined
 pub mod Admitted
 pub mod Shape

@@ -1,5 +1,5 @@
 -- The faults, layers and rejections of the code, as those of the rules.
-use Rattle.std.specs.Prelude.{ℕ, Some, None, Ok, Err, Option, Result}
+use Rattle.std.specs.Prelude.{ℕ, List, ◌∷◌, ◌++◌, Some, None, Ok, Err, Option, Result, codes, decimal}
 use Rattle.rules.specs.Rejection.{Rejection, book, tree, sheet}
 use Rattle.meta.specs.declared.rejection.Fault.{Fault}
 use Rattle.meta.specs.declared.rejection.Fault.TheVariants as F
@@ -20,6 +20,20 @@ fault_number F.Unplaced = 17
 fault_number F.NoNode = 20
 fault_number F.Bench = 30
 fault_number F.Long = 32
+
+-- the layer that finds a fault
+abbrev pub layer_of : Fault → Layer
+layer_of F.Size = L.Book
+layer_of F.Full = L.Book
+layer_of F.Kind = L.Book
+layer_of F.Unused = L.Book
+layer_of F.Word = L.Book
+layer_of F.Note = L.Book
+layer_of F.Childless = L.Book
+layer_of F.Unplaced = L.Book
+layer_of F.NoNode = L.Tree
+layer_of F.Bench = L.Sheet
+layer_of F.Long = L.Sheet
 
 -- the letter of a layer
 abbrev pub layer_letter : Layer → ℕ
@@ -45,3 +59,9 @@ answer_of (Err e) = Err (rejection_of e)
 abbrev pub by_rule : {A : Type 0} → Option Rejection → A → Result A Rejection
 by_rule None x = Ok x
 by_rule (Some e) x = Err e
+
+-- a rejection in print: its four numbers, the layer by its letter
+abbrev pub rejection_text : Rejection → List ℕ
+rejection_text e =
+    codes "refused " ++ (decimal e.number ++ (codes " " ++ (e.layer ∷ (codes " "
+    ++ (decimal e.«record» ++ (codes " " ++ decimal e.within))))))

@@ -1,10 +1,8 @@
 -- What the parts of a book stand for.
-use Rattle.std.specs.Prelude.{◌≡◌, ℕ, ◌+◌, ◌≤◌, Bool, true, ◌&&◌, List, [], ◌∷◌, map, length, take, drop, Some, nat_le}
-use Rattle.rules.specs.Lists.{at}
+use Rattle.std.specs.Prelude.{ℕ, ◌+◌, Bool, true, ◌&&◌, List, [], ◌∷◌, map, take, drop, nat_le}
 use Rattle.rules.specs.Notes.{Note}
 use Rattle.rules.specs.Plain.{Plain}
 use Rattle.rules.specs.Plain as P
-use Rattle.rules.specs.Sound.{stands, parents, whole}
 use Rattle.meta.specs.declared.book.Node.{Node}
 
 -- a node of the rules: its record, and its run of the children of all nodes
@@ -22,15 +20,3 @@ plain_from places notes nodes kids = record { places = places; notes = notes; no
 unfoldable pub spanned : ℕ → List Node → Bool
 spanned m [] = true
 spanned m (n ∷ ns) = nat_le (n.first + n.count) m && spanned m ns
-
--- each node stands at its number
-abbrev pub Standing : Plain → Type 0
-Standing p = (k : ℕ) (n : P.Node) → at p.nodes k ≡ Some n → stands (length p.notes) k n ≡ true
-
--- no node has two parents
-abbrev pub Single : Plain → Type 0
-Single p = (i : ℕ) → parents p.nodes i ≤ 1
-
--- each note is whole
-abbrev pub Noted : Plain → Type 0
-Noted p = (k : ℕ) (n : Note) → at p.notes k ≡ Some n → whole n ≡ true

@@ -1,24 +1,21 @@
 // The book: nodes that are added from the leaves up, with what always holds of them.
-ghost use Rattle.std.specs.Prelude.{◌≡◌, ◌+◌, ◌≤◌, min, true, length, vec_len, vec_capacity};
-ghost use Rattle.rules.specs.Plain.{unplaced as loose};
-ghost use Rattle.buffer.specs.Stores.{notes_in};
-ghost use Rattle.meta.specs.Shape.{nodes_of, spanned, plain_from, Standing, Single, Noted};
-
-use crate::fields::RECORD_SIZE;
+use crate::fields::Record;
 use buffer::store::Store;
+use std::marker::Model;
 
 mod adds;
 mod reads;
 mod trees;
 
-#[derive(Clone, Copy)]
+#[derive(Clone, Copy, Debug, PartialEq, Eq)]
 pub struct Node {
-    record: [u8; RECORD_SIZE],
-    // Where its children begin among those of all nodes, and how many there are.
+    record: Record,
+    // Where its children begin among those of all nodes, and how many there are: a list of its own would need memory.
     first: u16,
     count: u16,
 }
 
+// The lists take all their memory at the start, since nothing may allocate once a book is open.
 #[derive(Drop)]
 pub struct Book {
     nodes: Vec<Node>,
@@ -28,13 +25,18 @@ pub struct Book {
     unplaced: Vec<u16>,
     store: Store,
     places: usize,
-    ghost sizes: { (vec_len nodes ≤ min places 256) × (vec_len kids + vec_len unplaced ≡ vec_len nodes) },
-    ghost reserved: { (min places 256 ≤ vec_capacity nodes) × (min places 256 ≤ vec_capacity kids) × (min places 256 ≤ vec_capacity unplaced) },
-    ghost runs: { spanned (length kids.items) nodes.items ≡ true },
-    ghost stack: { unplaced.items ≡ loose (nodes_of nodes.items kids.items) },
-    ghost standing: { Standing (plain_from places (notes_in store) nodes.items kids.items) },
-    ghost single: { Single (plain_from places (notes_in store) nodes.items kids.items) },
-    ghost noted: { Noted (plain_from places (notes_in store) nodes.items kids.items) },
+}
+
+impl Model for Book {
+    ghost use Rattle.rules.specs.Plain.{Plain};
+
+    ghost Value = { Plain };
+
+    ghost use Rattle.meta.specs.View.{plain_of, IsBook};
+
+    ghost view = { plain_of };
+
+    ghost invariant = { IsBook };
 }
 
 impl Book {

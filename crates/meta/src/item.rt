@@ -1,7 +1,7 @@
 // What a node of a command tree says.
 
-// A word of a record.
-#[derive(Clone, Copy)]
+// A word of a record: fewer than its fields, since only these hold words.
+#[derive(Clone, Copy, Debug, PartialEq, Eq)]
 pub enum Part {
     Name,
     Metavar,
@@ -9,18 +9,18 @@ pub enum Part {
 }
 
 // Where a word stands: in which node's record, and as which of its words.
-#[derive(Clone, Copy)]
+#[derive(Clone, Copy, Debug, PartialEq, Eq)]
 pub struct Word {
     pub node: u16,
     pub part: Part,
 }
 
 // The word that a value is called by.
-#[derive(Clone, Copy)]
+#[derive(Clone, Copy, Debug, PartialEq, Eq)]
 pub struct Metavar(pub Word);
 
 // The name of a flag or an argument.
-#[derive(Clone, Copy)]
+#[derive(Clone, Copy, Debug, PartialEq, Eq)]
 pub enum ShortLong {
     Short(u8),
     Long(Word),
@@ -28,7 +28,7 @@ pub enum ShortLong {
 }
 
 // Notes and nodes go by their numbers.
-#[derive(Clone, Copy)]
+#[derive(Clone, Copy, Debug, PartialEq, Eq)]
 pub enum Item {
     Any {
         metavar: u16,
@@ -63,8 +63,8 @@ pub enum Item {
     },
 }
 
-// A node of a command tree; its children go by their numbers.
-#[derive(Clone, Copy)]
+// A node of a command tree; its children go by their numbers. It is more than a kind, since it has children and notes.
+#[derive(Clone, Copy, Debug, PartialEq, Eq)]
 pub enum Meta<'a> {
     Skip,
     And(&'a [u16]),

@@ -6,6 +6,5 @@ mod decode;
 mod examine;
 pub mod fields;
 pub mod item;
-mod kind;
 pub mod rejection;
 mod words;

@@ -1,17 +1,19 @@
 // Why a call is refused.
 ghost use Rattle.std.specs.Prelude.{◌≡◌};
 ghost use Rattle.rules.specs.Rejection.{shown, reject};
-ghost use Rattle.meta.specs.Rejections.{fault_number, layer_letter, rejection_of};
+ghost use Rattle.meta.specs.Rejections.{fault_number, layer_of, layer_letter, rejection_of};
+
+use std::fmt;
 
 // The layer that refuses: the book, the tree in it, or the sheet with its bench.
-#[derive(Clone, Copy)]
+#[derive(Clone, Copy, Debug, PartialEq, Eq)]
 pub enum Layer {
     Book,
     Tree,
     Sheet,
 }
 
-#[derive(Clone, Copy)]
+#[derive(Clone, Copy, Debug, PartialEq, Eq)]
 pub enum Fault {
     // The record is not 128 bytes long.
     Size,
@@ -37,8 +39,9 @@ pub enum Fault {
     Long,
 }
 
-// A refused call: the fault, its layer, the record that it is about, and the command around that.
-#[derive(Clone, Copy)]
+// A refused call: the fault, its layer, the record that it is about, and the command around that. The four fields, and
+// 65535 for none, are how a rejection is shown.
+#[derive(Clone, Copy, Debug, PartialEq, Eq)]
 pub struct Rejection {
     pub fault: Fault,
     pub layer: Layer,
@@ -47,7 +50,7 @@ pub struct Rejection {
 }
 
 impl Fault {
-    // The number that a fault is known by.
+    // The number that a fault is known by; no other place of the code has it.
     pub fn number(self) -> u8
         ensures { result ≡ fault_number self }
     {
@@ -65,9 +68,28 @@ impl Fault {
             Fault::Long => 32,
         }
     }
+
+    // The layer that finds the fault.
+    pub fn layer(self) -> Layer
+        ensures { result ≡ layer_of self }
+    {
+        match self {
+            Fault::Size
+            | Fault::Full
+            | Fault::Kind
+            | Fault::Unused
+            | Fault::Word
+            | Fault::Note
+            | Fault::Childless
+            | Fault::Unplaced => Layer::Book,
+            Fault::NoNode => Layer::Tree,
+            Fault::Bench | Fault::Long => Layer::Sheet,
+        }
+    }
 }
 
 impl Layer {
+    // The letter that a layer is known by; no other place of the code has it.
     pub fn letter(self) -> char
         ensures { result ≡ layer_letter self }
     {
@@ -79,7 +101,7 @@ impl Layer {
     }
 }
 
-// A number as a rejection shows it: none for one that is too large.
+// A number as a rejection shows it: none for one that is too large. The limit is spelled out, as the rules give it.
 fn shown_number(n: usize) -> u16
     ensures { result ≡ shown n }
 {
@@ -95,14 +117,29 @@ impl Rejection {
     pub const NONE: u16 = 65535;
 
     // A rejection about a record, with no command around it.
-    pub fn new(fault: Fault, layer: Layer, record: usize) -> Rejection
-        ensures { rejection_of result ≡ reject (fault_number fault) (layer_letter layer) «record» }
+    pub fn new(fault: Fault, record: usize) -> Rejection
+        ensures { rejection_of result ≡ reject (fault_number fault) (layer_letter (layer_of fault)) «record» }
     {
         Rejection {
             fault,
-            layer,
+            layer: fault.layer(),
             record: shown_number(record),
             within: Rejection::NONE,
         }
+    }
+}
+
+impl fmt::Display for Rejection {
+    ghost use Rattle.std.specs.Prelude.{Some};
+    ghost use Rattle.meta.specs.Rejections.{rejection_of, rejection_text};
+
+    ghost output = { λ e. Some (rejection_text (rejection_of e)) };
+
+    fn fmt<W: fmt::Write>(&self, f: &mut fmt::Formatter<W>) -> fmt::Result {
+        let number = self.fault.number();
+        let layer = self.layer.letter();
+        let record = self.record;
+        let within = self.within;
+        write!(f, "refused {number} {layer} {record} {within}")
     }
 }

@@ -1,8 +1,9 @@
 // Words: the bytes that may stand in one, and where it ends.
-ghost use Rattle.std.specs.Prelude.{◌≡◌, ◌≤◌, length};
-ghost use Rattle.rules.specs.Lists.{all, zeros};
+ghost use Rattle.std.specs.Prelude.{◌≡◌, ℕ, ◌≤◌, ◌==◌, ◌&&◌, not, Bool, length};
+ghost use Rattle.std.specs.List.{list_all, position_from};
+ghost use Rattle.rules.specs.Lists.{zeros};
 ghost use Rattle.rules.specs.Records.{name_byte, word_of, is_word, is_short};
-ghost use Rattle.meta.specs.Kinds.{allowed};
+ghost use Rattle.meta.specs.Words.{allowed, Tells};
 
 use crate::item::Part;
 
@@ -13,14 +14,14 @@ pub const WORD_LIMIT: usize = 31;
 fn is_visible(byte: u8) -> bool
     ensures { result ≡ name_byte byte }
 {
-    33 <= byte && byte <= 126
+    matches!(byte, b'!'..=b'~')
 }
 
-// A short, or 0 for none.
-pub(crate) fn is_short(byte: u8) -> bool
-    ensures { result ≡ is_short byte }
+// A byte that a short may be.
+pub(crate) fn is_letter(byte: u8) -> bool
+    ensures { result ≡ not (byte == 0) && is_short byte }
 {
-    byte == 0 || is_visible(byte) && byte != b'-'
+    is_visible(byte) && byte != b'-'
 }
 
 impl Part {
@@ -33,41 +34,19 @@ impl Part {
             Part::Variable => is_visible(byte) && byte != b'=',
         }
     }
-
-    fn allows_all(self, bytes: &[u8]) -> bool
-        ensures { result ≡ all (allowed self) bytes.now }
-    {
-        for byte in bytes {
-            if !self.allows(*byte) {
-                return false;
-            }
-        }
-        true
-    }
 }
 
 pub(crate) fn are_zeros(bytes: &[u8]) -> bool
     ensures { result ≡ zeros bytes.now }
 {
-    for byte in bytes {
-        if *byte != 0 {
-            return false;
-        }
-    }
-    true
+    bytes.iter().all(|byte| *byte == 0)
 }
 
-// How many bytes stand before the first zero.
-pub(crate) fn word_len(bytes: &[u8]) -> usize
-    ensures value { result ≡ length (word_of bytes.now) }
-    ensures bound { result ≤ length bytes.now }
+// Where the first zero stands.
+fn first_zero(bytes: &[u8]) -> Option<usize>
+    ensures { result ≡ position_from (λ b. b == 0) 0 bytes.now }
 {
-    for (i, byte) in bytes.iter().enumerate() {
-        if *byte == 0 {
-            return i;
-        }
-    }
-    bytes.len()
+    bytes.iter().position(|byte| *byte == 0)
 }
 
 // What stands before the first zero.
@@ -75,13 +54,21 @@ pub(crate) fn word_of(bytes: &[u8]) -> &[u8]
     ensures value { result.now ≡ word_of bytes.now }
     ensures bound { length result.now ≤ length bytes.now }
 {
-    &bytes[0..word_len(bytes)]
+    &bytes[..first_zero(bytes).unwrap_or(bytes.len())]
 }
 
-// A word of the part's bytes, with zeros behind it.
-pub(crate) fn is_word(bytes: &[u8], part: Part) -> bool
-    ensures { result ≡ is_word (allowed part) bytes.now }
+fn all_pass<F: Fn(u8) -> bool>(bytes: &[u8], allowed: F) -> bool
+    requires { F.IsAlwaysCallable allowed }
+    ensures { (ok : ℕ → Bool) → Tells (F.post allowed) ok → result ≡ list_all ok bytes.now }
+{
+    bytes.iter().all(|byte| allowed(*byte))
+}
+
+// A word of allowed bytes, with zeros behind it.
+pub(crate) fn is_word<F: Fn(u8) -> bool>(bytes: &[u8], allowed: F) -> bool
+    requires { F.IsAlwaysCallable allowed }
+    ensures { (ok : ℕ → Bool) → Tells (F.post allowed) ok → result ≡ is_word ok bytes.now }
 {
     let word = word_of(bytes);
-    part.allows_all(word) && word.len() <= WORD_LIMIT && are_zeros(&bytes[word.len()..])
+    all_pass(word, allowed) && word.len() <= WORD_LIMIT && are_zeros(&bytes[word.len()..])
 }

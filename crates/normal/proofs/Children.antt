@@ -1,51 +1,70 @@
 -- Rows of children, one child after the other.
-use Rattle.std.proofs.Common.{◌≡◌, ℕ, ◌+◌, ◌≤◌, Bool, true, false, not, ◌&&◌, ◌||◌, List, ◌++◌, length, take, sym, refl, ap, ◌∙◌, ap₂, append_assoc, arith}
-use Rattle.std.proofs.lemmas.List.{take_at, append-nil}
-use Rattle.rules.specs.Kind.{Kind}
-use Rattle.rules.specs.Kind as K
+use Rattle.terms.specs.StrictNorm.{running}
+use Rattle.std.proofs.Common.{◌≡◌, ℕ, ◌+◌, Bool, true, false, not, ◌&&◌, ◌||◌, List, ◌++◌, sym, refl, ap, ◌∙◌, append_assoc, subst, add-zero, arith, eqb-true, ◌==◌}
+use Rattle.std.proofs.lemmas.List.{append-nil}
+use Rattle.std.proofs.Math.Bool.{or-false}
+use Rattle.terms.specs.Kind.{kind_number, same_kind}
+use Rattle.terms.specs.declared.kind.Kind.TheVariants as K
+use Rattle.terms.specs.declared.kind.Kind.{Kind}
+use Rattle.terms.specs.declared.strict.StrictNorm.{StrictNorm}
 use Rattle.rules.specs.Plain.{Plain}
 use Rattle.rules.specs.Tree.{Meta, Metas, kind_of_tree, is}
-use Rattle.rules.specs.NormalForm.{and_of, or_of, more_if, no_skips, one_command}
-use Rattle.normal.specs.declared.bench.Normal.{Normal}
-use Rattle.normal.specs.Bench.{Entry, len, post, posts, entries}
-use Rattle.normal.specs.Rows.{stays, sees, Settles}
-use Rattle.normal.proofs.Tops.{entries-take}
-use Rattle.normal.proofs.Rules.{kind_same}
+use Rattle.rules.specs.NormalForm.{Done, nf, wrapped, more_if, no_skips, one_command}
+use Rattle.rules.specs.NormalForm as N
+use Rattle.normal.specs.declared.row.Row.{Row}
+use Rattle.normal.specs.declared.row.Row.TheVariants as R
+use Rattle.normal.specs.Bench.{Entry, len, post, posts}
+use Rattle.normal.specs.Holding.{Holding}
+use Rattle.normal.specs.Held.{held}
+use Rattle.normal.specs.Rows.{tree_of, starts, ends, keeps, closed, rest}
 
-pub none_is : (ts : Metas) → len ts ≡ 0 → ts ≡ Metas.none
-none_is Metas.none e = refl
-none_is (Metas.more t ts) e = absurd (omega arith)
+-- a row closes as the rules say
+pub nf_row : (row : Row) (ts : Metas) (usage : Bool) (m : StrictNorm) → nf (tree_of row ts) usage m ≡ record { tree = closed row (rest row ts usage m m false).kept; mark = (rest row ts usage m m false).mark }
+nf_row R.And ts usage m = refl
+nf_row R.Or ts usage m = refl
 
-pub one-is : (ts : Metas) → len ts ≡ 1 → (t : Meta) × (ts ≡ Metas.more t Metas.none)
-one-is Metas.none e = absurd (omega arith)
-one-is (Metas.more t ts) e = let n : len ts ≡ 0 = omega arith in (t, ap (Metas.more t) (none_is ts n))
+-- nothing is left behind the last child
+pub rest-none : (row : Row) (usage : Bool) (entry run : StrictNorm) (seen : Bool) → rest row Metas.none usage entry run seen ≡ record { kept = Metas.none; mark = ends row entry run }
+rest-none R.And usage entry run seen = refl
+rest-none R.Or usage entry run seen = refl
 
-pub two_are : (ts : Metas) → 2 ≤ len ts → (and_of ts ≡ Meta.and ts) × (or_of ts ≡ Meta.required (Meta.or ts))
-two_are Metas.none e = absurd (omega arith)
-two_are (Metas.more t Metas.none) e = absurd (omega arith)
-two_are (Metas.more t (Metas.more u ts)) e = (refl, refl)
+skip_no_command : (k : Kind) → same_kind K.Skip k ≡ true → same_kind K.Command k ≡ false
+skip_no_command k e = ap (λ (n : ℕ). kind_number K.Command == n) (sym (eqb-true (kind_number K.Skip) (kind_number k) e))
 
--- one child alone, as a row
-pub alone : (bs xs : List Entry) (ts : Metas) (t : Meta) → ts ≡ Metas.more t Metas.none → xs ≡ bs ++ posts ts → xs ≡ bs ++ post t
-alone bs xs ts t e h = h ∙ ap (λ (u : Metas). bs ++ posts u) e ∙ ap (λ (ys : List Entry). bs ++ ys) (append-nil (post t))
+one_by : (seen : Bool) (t : Meta) (ts : Metas) (b : Bool) → is K.Skip t ≡ b → one_command seen (more_if (not b) t ts) ≡ more_if (not b && not (seen && is K.Command t)) t (one_command (seen || is K.Command t) ts)
+one_by seen t ts false e = refl
+one_by seen t ts true e = rw (skip_no_command (kind_of_tree t) e, or-false)
 
--- a child that stays, and one that goes
-pub stays_so : (bs ys : List Entry) (t : Meta) (seen : Bool) → ys ≡ bs ++ post t → stays seen t ≡ true → ys ≡ bs ++ posts (more_if (stays seen t) t Metas.none)
-stays_so bs ys t seen e s = e ∙ ap (λ (zs : List Entry). bs ++ zs) (sym (append-nil (post t))) ∙ ap (λ (b : Bool). bs ++ posts (more_if b t Metas.none)) (sym s)
+-- a child in front of what is left behind it, if it stays
+abbrev pub in_front : Bool → Meta → N.Row → N.Row
+in_front b t r = record { kept = more_if b t r.kept; mark = r.mark }
 
-pub goes_so : (bs ys : List Entry) (t : Meta) (seen : Bool) → ys ≡ bs → stays seen t ≡ false → ys ≡ bs ++ posts (more_if (stays seen t) t Metas.none)
-goes_so bs ys t seen e s = e ∙ sym (append-nil bs) ∙ ap (λ (b : Bool). bs ++ posts (more_if b t Metas.none)) (sym s)
+-- what is left of a row in front of a child that is back as a tree with a mark
+abbrev pub behind : Row → Metas → (usage : Bool) → (entry run : StrictNorm) → (seen : Bool) → StrictNorm → Meta → N.Row
+behind row ts usage entry run seen m u = in_front (keeps row seen (kind_of_tree u)) u (rest row ts usage entry (running run m) (seen || is K.Command u))
 
--- a bench cut off where a tree starts
-pub cut_off : (p : Plain) (ns ns' : List Normal) (n : ℕ) (bs es : List Entry) → ns' ≡ take n ns → entries p ns ≡ bs ++ es → length bs ≡ n → entries p ns' ≡ bs
-cut_off p ns ns' n bs es r e l = ap (entries p) r ∙ entries-take p n ns ∙ ap (take n) e ∙ take_at bs es n l
+-- the children of an Or that stay, in one pass
+abbrev of_or : (seen : Bool) → N.Row → N.Row
+of_or seen r = record { kept = one_command seen (no_skips r.kept); mark = r.mark }
+
+or_front : (seen : Bool) (t : Meta) (r : N.Row)
+    → of_or seen (N.put t r) ≡ in_front (keeps R.Or seen (kind_of_tree t)) t (of_or (seen || is K.Command t) r)
+or_front seen t r = ap (λ (ks : Metas). record { kept = ks; mark = r.mark }) (one_by seen t (no_skips r.kept) (is K.Skip t) refl)
+
+-- a child that is back stays or goes, and the row goes on behind it
+pub rest-more : (row : Row) (t : Meta) (ts : Metas) (usage : Bool) (entry run : StrictNorm) (seen : Bool) (m : StrictNorm) → m ≡ (nf t usage (starts row entry run)).mark
+    → rest row (Metas.more t ts) usage entry run seen ≡ behind row ts usage entry run seen m (wrapped run m (nf t usage (starts row entry run)).tree)
+rest-more R.And t ts usage entry run seen m e = ap (λ (k : StrictNorm). behind R.And ts usage entry run seen k (wrapped run k (nf t usage run).tree)) (sym e)
+rest-more R.Or t ts usage entry run seen m e =
+    or_front seen (wrapped run (nf t usage entry).mark (nf t usage entry).tree) (N.ors ts usage entry (running run (nf t usage entry).mark))
+    ∙ ap (λ (k : StrictNorm). behind R.Or ts usage entry run seen k (wrapped run k (nf t usage entry).tree)) (sym e)
 
 -- a row with one more child
 row_more : (xs ys : List Entry) (k : Bool) (t : Meta) (ts : Metas) → ys ≡ xs ++ posts (more_if k t Metas.none) → ys ++ posts ts ≡ xs ++ posts (more_if k t ts)
 row_more xs ys true t ts e = ap (λ (zs : List Entry). zs ++ posts ts) (e ∙ ap (λ (zs : List Entry). xs ++ zs) (append-nil (post t))) ∙ append_assoc xs (post t) (posts ts)
 row_more xs ys false t ts e = ap (λ (zs : List Entry). zs ++ posts ts) (e ∙ append-nil xs)
 
-abbrev pub one : Bool → ℕ
+abbrev one : Bool → ℕ
 one true = 1
 one false = 0
 
@@ -53,49 +72,39 @@ len_more : (k : Bool) (t : Meta) (ts : Metas) → one k + len ts ≡ len (more_i
 len_more true t ts = omega arith
 len_more false t ts = omega arith
 
-skips_by : (t : Meta) (ts : Metas) (b : Bool) → more_if (not b) t ts ≡ more_if (not b && not (false && is K.command t)) t ts
-skips_by t ts true = refl
-skips_by t ts false = refl
+-- how far a row has come: what stands on the bench, with what is left, is what stays of the whole row
+pub record Reached (p : Plain) (old new : Holding) (n : ℕ) (all left : N.Row) : Type 0 where
+  pub nodes : held p new ++ posts left.kept ≡ held p old ++ posts all.kept
+  pub count : n + len left.kept ≡ len all.kept
+  pub mark : left.mark ≡ all.mark
 
--- without Skips, the child in front stays or goes
-pub no_skips_more : (t : Meta) (ts : Metas) → no_skips (Metas.more t ts) ≡ more_if (stays false t) t (no_skips ts)
-no_skips_more t ts = skips_by t (no_skips ts) (is K.skip t)
+reached_by : (p : Plain) (old new new' : Holding) (n : ℕ) (all left left' : N.Row) (k : Bool) (u : Meta) → Reached p old new n all left → left ≡ in_front k u left'
+    → held p new' ≡ held p new ++ posts (more_if k u Metas.none) → Reached p old new' (n + one k) all left'
+reached_by p old new new' n all left left' k u r e h = record {
+  nodes = row_more (held p new) (held p new') k u left'.kept h ∙ ap (λ (x : N.Row). held p new ++ posts x.kept) (sym e) ∙ r.nodes;
+  count = (let l : one k + len left'.kept ≡ len left.kept = len_more k u left'.kept ∙ ap (λ (x : N.Row). len x.kept) (sym e) in omega (arith, l, r.count));
+  mark = ap (λ (x : N.Row). x.mark) (sym e) ∙ r.mark;
+}
 
-or_false : (b : Bool) → b ≡ b || false
-or_false true = refl
-or_false false = refl
+-- one child further, which is kept
+pub reached_kept : (p : Plain) (old new new' : Holding) (n n' : ℕ) (all left left' : N.Row) (k : Bool) (u : Meta) → Reached p old new n all left → left ≡ in_front k u left'
+    → k ≡ true → held p new' ≡ held p new ++ post u → n' ≡ n + 1 → Reached p old new' n' all left'
+reached_kept p old new new' n n' all left left' true u r e b h m =
+    subst (λ (x : ℕ). Reached p old new' x all left') (sym m) (reached_by p old new new' n all left left' true u r e (h ∙ ap (λ (xs : List Entry). held p new ++ xs) (sym (append-nil (post u)))))
+reached_kept p old new new' n n' all left left' false u r e b h m = cc
 
-skip_no_command : (k : Kind) → K.is K.skip k ≡ true → K.is K.command k ≡ false
-skip_no_command k e = ap (K.is K.command) (sym (kind_same K.skip k e))
+-- one child further, which is cut off
+pub reached_cut : (p : Plain) (old new new' : Holding) (n n' : ℕ) (all left left' : N.Row) (k : Bool) (u : Meta) → Reached p old new n all left → left ≡ in_front k u left'
+    → k ≡ false → held p new' ≡ held p new → n' ≡ n → Reached p old new' n' all left'
+reached_cut p old new new' n n' all left left' true u r e b h m = cc
+reached_cut p old new new' n n' all left left' false u r e b h m =
+    subst (λ (x : ℕ). Reached p old new' x all left') (add-zero n ∙ sym m) (reached_by p old new new' n all left left' false u r e (h ∙ sym (append-nil (held p new))))
 
-one_by : (seen : Bool) (t : Meta) (ts : Metas) (b : Bool) → is K.skip t ≡ b → one_command seen (more_if (not b) t ts) ≡ more_if (not b && not (seen && is K.command t)) t (one_command (sees seen t) ts)
-one_by seen t ts false e = refl
-one_by seen t ts true e = ap (λ (s : Bool). one_command s ts) (or_false seen ∙ ap (λ (b : Bool). seen || b) (sym (skip_no_command (kind_of_tree t) e)))
-
--- without Skips and without every Command but the first, in one pass
-pub one_command_more : (seen : Bool) (t : Meta) (ts : Metas) → one_command seen (no_skips (Metas.more t ts)) ≡ more_if (stays seen t) t (one_command (sees seen t) (no_skips ts))
-one_command_more seen t ts = one_by seen t (no_skips ts) (is K.skip t) refl
-
--- the children of an Or that stay, in one pass
-abbrev pub one_pass : (seen : Bool) → Metas → Metas
-one_pass seen Metas.none = Metas.none
-one_pass seen (Metas.more t ts) = more_if (stays seen t) t (one_pass (sees seen t) ts)
-
-pub one_pass_lem : (seen : Bool) (ts : Metas) → one_command seen (no_skips ts) ≡ one_pass seen ts
-one_pass_lem seen Metas.none = refl
-one_pass_lem seen (Metas.more t ts) = one_command_more seen t ts ∙ ap (more_if (stays seen t) t) (one_pass_lem (sees seen t) ts)
-
--- the row of an And behind a child that is settled
-pub and_settled : (t : Meta) (ts : Metas) (xs ys : List Entry) (kept seen' : Bool) → Settles xs t false ys kept seen' → (ys ++ posts (no_skips ts) ≡ xs ++ posts (no_skips (Metas.more t ts))) × (one kept + len (no_skips ts) ≡ len (no_skips (Metas.more t ts)))
-and_settled t ts xs ys kept seen' s = (
-  row_more xs ys (stays false t) t (no_skips ts) s.0 ∙ ap (λ (us : Metas). xs ++ posts us) (sym (no_skips_more t ts)),
-  ap (λ (k : Bool). one k + len (no_skips ts)) s.1 ∙ len_more (stays false t) t (no_skips ts) ∙ ap len (sym (no_skips_more t ts)),
+-- the end of a row
+pub reached_end : (p : Plain) (old new : Holding) (n : ℕ) (all left : N.Row) (m : StrictNorm) → Reached p old new n all left → left ≡ record { kept = Metas.none; mark = m }
+    → (held p new ≡ held p old ++ posts all.kept) × (n ≡ len all.kept) × (m ≡ all.mark)
+reached_end p old new n all left m r e = (
+  sym (append-nil (held p new)) ∙ ap (λ (x : N.Row). held p new ++ posts x.kept) (sym e) ∙ r.nodes,
+  sym (add-zero n) ∙ ap (λ (x : N.Row). n + len x.kept) (sym e) ∙ r.count,
+  ap (λ (x : N.Row). x.mark) (sym e) ∙ r.mark,
 )
-
--- the row of an Or likewise
-pub or_settled : (seen : Bool) (t : Meta) (ts : Metas) (xs ys : List Entry) (kept seen' : Bool) → Settles xs t seen ys kept seen' → (ys ++ posts (one_command seen' (no_skips ts)) ≡ xs ++ posts (one_command seen (no_skips (Metas.more t ts)))) × (one kept + len (one_command seen' (no_skips ts)) ≡ len (one_command seen (no_skips (Metas.more t ts))))
-or_settled seen t ts xs ys kept seen' s =
-    let after : one_command seen' (no_skips ts) ≡ one_command (sees seen t) (no_skips ts) = ap (λ (b : Bool). one_command b (no_skips ts)) s.2 in (
-      ap (λ (us : Metas). ys ++ posts us) after ∙ row_more xs ys (stays seen t) t (one_command (sees seen t) (no_skips ts)) s.0 ∙ ap (λ (us : Metas). xs ++ posts us) (sym (one_command_more seen t ts)),
-      ap₂ (λ (k : Bool) (us : Metas). one k + len us) s.1 after ∙ len_more (stays seen t) t (one_command (sees seen t) (no_skips ts)) ∙ ap len (sym (one_command_more seen t ts)),
-    )

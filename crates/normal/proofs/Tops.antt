@@ -1,8 +1,9 @@
 -- What stands at a bench's end.
-use Rattle.std.proofs.Common.{◌≡◌, ℕ, zero, suc, ◌+◌, ◌-◌, ◌<◌, ◌≤◌, List, [], ◌∷◌, ◌++◌, length, get_or, take, sym, refl, ap, ◌∙◌, append_assoc, arith, length-append}
-use Rattle.std.proofs.lemmas.List.{get_or_at, take_at, get_or_append_left}
-use Rattle.rules.specs.Kind.{Kind}
-use Rattle.rules.specs.Kind as K
+use Rattle.std.proofs.Common.{◌≡◌, ℕ, ◌+◌, ◌-◌, ◌<◌, ◌≤◌, List, [], ◌∷◌, ◌++◌, length, get_or, take, sym, refl, ap, ◌∙◌, append_assoc, arith, length-append}
+use Rattle.std.proofs.Math.ListN.{get_or-map}
+use Rattle.std.proofs.lemmas.List.{get_or_at, take_at, get_or_append_left, length-map, take-map}
+use Rattle.terms.specs.declared.kind.Kind.TheVariants as K
+use Rattle.terms.specs.declared.kind.Kind.{Kind}
 use Rattle.rules.specs.Plain.{Plain}
 use Rattle.rules.specs.Tree.{Meta, Metas, Item, kind_of_tree}
 use Rattle.meta.specs.declared.item.Item.{Item as CodeItem}
@@ -11,59 +12,37 @@ use Rattle.meta.specs.Items.{item_of}
 use Rattle.normal.specs.declared.bench.Form.{Form}
 use Rattle.normal.specs.declared.bench.Form.TheVariants as F
 use Rattle.normal.specs.declared.bench.Normal.{Normal}
-use Rattle.normal.specs.Bench.{Top, Entry, seal, post, posts, top_of, entry_of, entries, kind_of, kind_of_item}
+use Rattle.normal.specs.Bench.{Top, Entry, post, posts, top_of, entry_of, entries, kind_of, kind_of_item}
 use Rattle.rules.specs.Tree as T
 
 -- the kind of a top
 abbrev pub kind_of_top : Top → Kind
-kind_of_top Top.skip = K.skip
-kind_of_top Top.and = K.and
-kind_of_top Top.or = K.or
-kind_of_top Top.optional = K.optional
-kind_of_top Top.required = K.required
-kind_of_top Top.adjacent = K.adjacent
-kind_of_top Top.many = K.many
-kind_of_top Top.strict = K.strict
-kind_of_top (Top.subsection n) = K.subsection
-kind_of_top (Top.suffix n) = K.suffix
-kind_of_top (Top.custom_usage n) = K.custom_usage
+kind_of_top Top.skip = K.Skip
+kind_of_top Top.and = K.And
+kind_of_top Top.or = K.Or
+kind_of_top Top.optional = K.Optional
+kind_of_top Top.required = K.Required
+kind_of_top Top.adjacent = K.Adjacent
+kind_of_top Top.many = K.Many
+kind_of_top Top.strict = K.Strict
+kind_of_top (Top.subsection n) = K.Subsection
+kind_of_top (Top.suffix n) = K.Suffix
+kind_of_top (Top.custom_usage n) = K.CustomUsage
 kind_of_top (Top.item n i) = T.kind_of_item i
 
 pub item_kind : (p : Plain) (i : CodeItem) → T.kind_of_item (item_of p i) ≡ kind_of_item i
 item_kind p (CI.Any m a h) = refl
-item_kind p (CI.Positional m h) = refl
-item_kind p (CI.Command n s h t) = refl
-item_kind p (CI.Flag n v h) = refl
-item_kind p (CI.Argument n m v h) = refl
+item_kind p _ = refl
 
 pub form_kind : (p : Plain) (f : Form) → kind_of_top (top_of p f) ≡ kind_of f
-form_kind p F.Skip = refl
-form_kind p F.And = refl
-form_kind p F.Or = refl
-form_kind p F.Optional = refl
-form_kind p F.Required = refl
-form_kind p F.Many = refl
-form_kind p F.Strict = refl
-form_kind p (F.CustomUsage n) = refl
 form_kind p (F.Item n i) = item_kind p i
+form_kind p _ = refl
 
 pub length-entries : (p : Plain) (ns : List Normal) → length (entries p ns) ≡ length ns
-length-entries p [] = refl
-length-entries p (n ∷ ns) = ap suc (length-entries p ns)
-
-pub entries-append : (p : Plain) (ms ns : List Normal) → entries p (ms ++ ns) ≡ entries p ms ++ entries p ns
-entries-append p [] ns = refl
-entries-append p (m ∷ ms) ns = ap (λ (es : List Entry). entry_of p m ∷ es) (entries-append p ms ns)
-
-pub entries-take : (p : Plain) (k : ℕ) (ns : List Normal) → entries p (take k ns) ≡ take k (entries p ns)
-entries-take p zero ns = refl
-entries-take p (suc k) [] = refl
-entries-take p (suc k) (n ∷ ns) = ap (λ (es : List Entry). entry_of p n ∷ es) (entries-take p k ns)
+length-entries p ns = length-map ns (entry_of p)
 
 pub entries-get_or : (p : Plain) (k : ℕ) (ns : List Normal) (d : Normal) → entry_of p (get_or ns k d) ≡ get_or (entries p ns) k (entry_of p d)
-entries-get_or p k [] d = refl
-entries-get_or p zero (n ∷ ns) d = refl
-entries-get_or p (suc k) (n ∷ ns) d = entries-get_or p k ns d
+entries-get_or p k ns d = sym (get_or-map (entry_of p) ns k d)
 
 -- a tree's entries end in its top
 pub record Ends (t : Meta) : Type 0 where
@@ -94,13 +73,6 @@ last-is xs bs body x d e =
     let i : length (bs ++ body) ≡ length xs - 1 = omega arith in
     ap (λ (ys : List Entry). get_or ys (length xs - 1) d) f ∙ get_or_at (bs ++ body) x [] d _ i
 
-pub front_is : (xs bs body : List Entry) (x : Entry) → xs ≡ bs ++ (body ++ x ∷ []) → take (length xs - 1) xs ≡ bs ++ body
-front_is xs bs body x e =
-    let f : xs ≡ (bs ++ body) ++ x ∷ [] = e ∙ sym (append_assoc bs body _) in
-    let l : length xs ≡ length (bs ++ body) + 1 = ap length f ∙ length-append (bs ++ body) _ in
-    let i : length (bs ++ body) ≡ length xs - 1 = omega arith in
-    ap (λ (ys : List Entry). take (length xs - 1) ys) f ∙ take_at (bs ++ body) _ _ i
-
 kind_last : (xs bs : List Entry) (t : Meta) (d : Entry) → xs ≡ bs ++ post t → kind_of_top (get_or xs (length xs - 1) d).top ≡ kind_of_tree t
 kind_last xs bs t d e =
     let s = ends t in
@@ -111,13 +83,6 @@ not_empty xs bs t e =
     let s = ends t in
     let l : length xs ≡ length bs + length (post t) = ap length e ∙ length-append bs (post t) in
     let m : length (post t) ≡ length s.body + 1 = ap length s.is ∙ length-append s.body _ in
-    omega arith
-
-two_long : (xs bs : List Entry) (t : Meta) (x : Entry) → xs ≡ bs ++ (post t ++ x ∷ []) → 2 ≤ length xs
-two_long xs bs t x e =
-    let f : xs ≡ (bs ++ post t) ++ x ∷ [] = e ∙ sym (append_assoc bs (post t) _) in
-    let k : length xs ≡ length (bs ++ post t) + 1 = ap length f ∙ length-append (bs ++ post t) _ in
-    let h : 1 ≤ length (bs ++ post t) = not_empty _ bs t refl in
     omega arith
 
 kind_second : (xs bs : List Entry) (t : Meta) (d z : Entry) → xs ≡ bs ++ (post t ++ z ∷ []) → kind_of_top (get_or xs (length xs - 2) d).top ≡ kind_of_tree t
@@ -132,39 +97,21 @@ kind_second xs bs t d z e =
     ∙ ap (λ (q : ℕ). kind_of_top (get_or (bs ++ post t) q d).top) i
     ∙ kind_last (bs ++ post t) bs t d refl
 
--- the same of the nodes of a bench
-pub some_nodes : (p : Plain) (ns : List Normal) (bs : List Entry) (t : Meta) → entries p ns ≡ bs ++ post t → 1 ≤ length ns
-some_nodes p ns bs t e = let h = not_empty (entries p ns) bs t e in let l = length-entries p ns in omega arith
+-- the forms of the last two nodes of a bench
+pub top_is : (p : Plain) (ns : List Normal) (bs : List Entry) (t : Meta) (d : Normal) → entries p ns ≡ bs ++ post t → kind_of (get_or ns (length ns - 1) d).form ≡ kind_of_tree t
+top_is p ns bs t d e =
+    sym (form_kind p (get_or ns (length ns - 1) d).form)
+    ∙ ap (λ (y : Entry). kind_of_top y.top) (entries-get_or p (length ns - 1) ns d)
+    ∙ ap (λ (n : ℕ). kind_of_top (get_or (entries p ns) (n - 1) (entry_of p d)).top) (sym (length-entries p ns))
+    ∙ kind_last (entries p ns) bs t (entry_of p d) e
 
-pub two_nodes : (p : Plain) (ns : List Normal) (bs : List Entry) (t : Meta) (x : Entry) → entries p ns ≡ bs ++ (post t ++ x ∷ []) → 2 ≤ length ns
-two_nodes p ns bs t x e = let h = two_long (entries p ns) bs t x e in let l = length-entries p ns in omega arith
+pub second_is : (p : Plain) (ns : List Normal) (bs : List Entry) (t : Meta) (z : Entry) (d : Normal) → entries p ns ≡ bs ++ (post t ++ z ∷ []) → kind_of (get_or ns (length ns - 2) d).form ≡ kind_of_tree t
+second_is p ns bs t z d e =
+    sym (form_kind p (get_or ns (length ns - 2) d).form)
+    ∙ ap (λ (y : Entry). kind_of_top y.top) (entries-get_or p (length ns - 2) ns d)
+    ∙ ap (λ (n : ℕ). kind_of_top (get_or (entries p ns) (n - 2) (entry_of p d)).top) (sym (length-entries p ns))
+    ∙ kind_second (entries p ns) bs t (entry_of p d) z e
 
-pub top_is : (p : Plain) (ns : List Normal) (bs : List Entry) (t : Meta) (x : Normal) (n : ℕ) → n ≡ length ns → x ≡ get_or ns (n - 1) x → entries p ns ≡ bs ++ post t → kind_of x.form ≡ kind_of_tree t
-top_is p ns bs t x n l r e =
-    let i : n - 1 ≡ length (entries p ns) - 1 = (let h = length-entries p ns in omega arith) in
-    sym (form_kind p x.form)
-    ∙ ap (λ (y : Normal). kind_of_top (entry_of p y).top) r
-    ∙ ap (λ (y : Entry). kind_of_top y.top) (entries-get_or p (n - 1) ns x)
-    ∙ ap (λ (k : ℕ). kind_of_top (get_or (entries p ns) k (entry_of p x)).top) i
-    ∙ kind_last (entries p ns) bs t (entry_of p x) e
-
-pub second_is : (p : Plain) (ns : List Normal) (bs : List Entry) (t : Meta) (x : Normal) (z : Entry) (n : ℕ) → n ≡ length ns → x ≡ get_or ns (n - 2) x → entries p ns ≡ bs ++ (post t ++ z ∷ []) → kind_of x.form ≡ kind_of_tree t
-second_is p ns bs t x z n l r e =
-    let i : n - 2 ≡ length (entries p ns) - 2 = (let h = length-entries p ns in omega arith) in
-    sym (form_kind p x.form)
-    ∙ ap (λ (y : Normal). kind_of_top (entry_of p y).top) r
-    ∙ ap (λ (y : Entry). kind_of_top y.top) (entries-get_or p (n - 2) ns x)
-    ∙ ap (λ (k : ℕ). kind_of_top (get_or (entries p ns) k (entry_of p x)).top) i
-    ∙ kind_second (entries p ns) bs t (entry_of p x) z e
-
--- a bench that is closed by one more node
-pub sealed_up : (p : Plain) (x : Normal) (ns ns' : List Normal) (bs body : List Entry) → ns' ≡ ns ++ x ∷ [] → entries p ns ≡ bs ++ body → x.size ≡ length body + 1 → entries p ns' ≡ bs ++ seal (top_of p x.form) x.count body
-sealed_up p x ns ns' bs body e f s =
-    ap (entries p) e ∙ entries-append p ns (x ∷ []) ∙ ap (λ (es : List Entry). es ++ entry_of p x ∷ []) f ∙ append_assoc bs body _
-    ∙ ap (λ (n : ℕ). bs ++ (body ++ record { top = top_of p x.form; count = x.count; size = n } ∷ [])) s
-
--- a bench without its last node
-pub lifted : (p : Plain) (ns ns' : List Normal) (n : ℕ) (bs body : List Entry) (x : Entry) → ns' ≡ take (n - 1) ns → n ≡ length ns → entries p ns ≡ bs ++ (body ++ x ∷ []) → entries p ns' ≡ bs ++ body
-lifted p ns ns' n bs body x r l e =
-    let i : n - 1 ≡ length (entries p ns) - 1 = (let h = length-entries p ns in omega arith) in
-    ap (entries p) r ∙ entries-take p (n - 1) ns ∙ ap (λ (k : ℕ). take k (entries p ns)) i ∙ front_is (entries p ns) bs body x e
+-- a bench cut off where a tree starts
+pub cut_off : (p : Plain) (ns ns' : List Normal) (n : ℕ) (bs es : List Entry) → ns' ≡ take n ns → entries p ns ≡ bs ++ es → length bs ≡ n → entries p ns' ≡ bs
+cut_off p ns ns' n bs es r e l = ap (entries p) r ∙ sym (take-map (entry_of p) n ns) ∙ ap (take n) e ∙ take_at bs es n l

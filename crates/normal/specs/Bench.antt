@@ -1,8 +1,8 @@
 -- The entries of a bench: a tree in postorder.
-use Rattle.std.specs.Prelude.{ℕ, zero, suc, ◌+◌, ◌≤◌, List, [], ◌∷◌, ◌++◌, map, length, drop, slice_index_or}
+use Rattle.std.specs.Prelude.{ℕ, zero, suc, ◌+◌, List, [], ◌∷◌, ◌++◌, map, length, drop, slice_index_or}
+use Rattle.terms.specs.declared.kind.Kind.TheVariants as K
+use Rattle.terms.specs.declared.kind.Kind.{Kind}
 use Rattle.rules.specs.Notes.{Note}
-use Rattle.rules.specs.Kind.{Kind}
-use Rattle.rules.specs.Kind as K
 use Rattle.rules.specs.Plain.{Plain}
 use Rattle.rules.specs.Tree.{Meta, Metas, Item}
 use Rattle.meta.specs.Items.{item_of, note_numbered}
@@ -87,8 +87,8 @@ tree_in es = slice_index_or (run es []) 0 Meta.skip
 -- what a node of a bench says, over a book
 abbrev pub top_of : Plain → Form → Top
 top_of p F.Skip = Top.skip
-top_of p F.And = Top.and
-top_of p F.Or = Top.or
+top_of p (F.And n) = Top.and
+top_of p (F.Or n) = Top.or
 top_of p F.Optional = Top.optional
 top_of p F.Required = Top.required
 top_of p F.Many = Top.many
@@ -96,9 +96,15 @@ top_of p F.Strict = Top.strict
 top_of p (F.CustomUsage n) = Top.custom_usage (note_numbered p n)
 top_of p (F.Item n i) = Top.item n (item_of p i)
 
+-- how many children an And or an Or has
+abbrev pub count_of : Form → ℕ
+count_of (F.And n) = n
+count_of (F.Or n) = n
+count_of _ = 0
+
 -- a node of a bench, over a book
 abbrev pub entry_of : Plain → Normal → Entry
-entry_of p n = record { top = top_of p n.form; count = n.count; size = n.size }
+entry_of p n = record { top = top_of p n.form; count = count_of n.form; size = n.size }
 
 -- the nodes of a bench, over a book
 abbrev pub entries : Plain → List Normal → List Entry
@@ -106,23 +112,20 @@ entries p ns = map (entry_of p) ns
 
 -- the kind of an item, and of a form
 abbrev pub kind_of_item : CodeItem → Kind
-kind_of_item (CI.Any m a h) = K.any
-kind_of_item (CI.Positional m h) = K.positional
-kind_of_item (CI.Command n s h t) = K.command
-kind_of_item (CI.Flag n v h) = K.flag
-kind_of_item (CI.Argument n m v h) = K.argument
+kind_of_item (CI.Any m a h) = K.Any
+kind_of_item (CI.Positional m h) = K.Positional
+kind_of_item (CI.Command n s h t) = K.Command
+kind_of_item (CI.Flag n v h) = K.Flag
+kind_of_item (CI.Argument n m v h) = K.Argument
 
+-- the kind of a form, an item's being its own
 abbrev pub kind_of : Form → Kind
-kind_of F.Skip = K.skip
-kind_of F.And = K.and
-kind_of F.Or = K.or
-kind_of F.Optional = K.optional
-kind_of F.Required = K.required
-kind_of F.Many = K.many
-kind_of F.Strict = K.strict
-kind_of (F.CustomUsage n) = K.custom_usage
+kind_of F.Skip = K.Skip
+kind_of (F.And n) = K.And
+kind_of (F.Or n) = K.Or
+kind_of F.Optional = K.Optional
+kind_of F.Required = K.Required
+kind_of F.Many = K.Many
+kind_of F.Strict = K.Strict
+kind_of (F.CustomUsage n) = K.CustomUsage
 kind_of (F.Item n i) = kind_of_item i
-
--- room for so many more nodes
-abbrev pub Room : (used capacity more : ℕ) → Type 0
-Room used capacity more = (used + more ≤ capacity) × (used + more ≤ 65535)

@@ -1,5 +1,7 @@
 pub mod Places
-pub mod Marks
+pub mod Holding
 pub mod Bench
-pub mod Rows
 pub mod Held
+pub mod Rows
+pub mod Walks
+pub mod Calls

@@ -2,9 +2,7 @@
 #![tactic(auto)]
 
 pub mod bench;
-mod form;
 mod name;
 pub mod normalise;
-mod strict;
-mod tail;
+mod row;
 mod walk;

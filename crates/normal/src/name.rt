@@ -6,7 +6,7 @@ ghost use Rattle.meta.specs.Items.{name_in, item_of};
 
 use meta::item::{Item, ShortLong};
 
-// For usage the short of a name with both, otherwise the long.
+// For usage the short of a name with both, otherwise the long, as the rules' own parameter says.
 pub(crate) fn one_name(name: ShortLong, for_usage: bool) -> ShortLong
     ensures { (p : Plain) → name_in p result ≡ one_name for_usage (name_in p name) }
 {

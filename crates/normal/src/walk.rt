@@ -1,160 +1,136 @@
 // The walk over a book's nodes that puts their normal form on a bench.
-ghost use Rattle.std.specs.Prelude.{◌≡◌, ◌+◌, ◌*◌, ◌<◌, ◌≤◌, ◌++◌, length, vec_len, vec_capacity};
-ghost use Rattle.rules.specs.Tree.{Meta as Tree, tree_at};
-ghost use Rattle.rules.specs.NormalForm.{nf, normal};
-ghost use Rattle.normal.specs.Bench.{post, entries, Room};
-ghost use Rattle.normal.specs.Marks.{mark_of};
-ghost use Rattle.normal.specs.Rows.{row_at};
+ghost use Rattle.std.specs.Prelude.{◌≡◌, ◌*◌, ◌<◌, ◌≤◌, min, length};
+ghost use Rattle.rules.specs.Tree.{tree_at};
 ghost use Rattle.rules.specs.Weight.{weight};
 ghost use Rattle.meta.specs.Decoded.{AllBelow};
-ghost use Rattle.meta.specs.View.{plain_of};
+ghost use Rattle.normal.specs.Held.{held, Room};
+ghost use Rattle.normal.specs.Rows.{row_at, tree_of};
+ghost use Rattle.normal.specs.Walks.{Walks};
+ghost use Rattle.normal.specs.Calls.{normal_entries};
+ghost use Rattle.normal.specs.Places.{most};
 
-use crate::bench::{Form, Normal};
+use crate::bench::{Bench, Form};
 use crate::name::one_named;
-use crate::strict::StrictNorm;
-use crate::tail::{bare, close_and, close_or, custom, many, optional, put, required, settle, wrap};
+use crate::row::Row;
 use meta::book::Book;
 use meta::item::Meta;
+use terms::strict::StrictNorm;
 
-// Puts the normal form of an And over `children`, which are below `n`, at the bench's end.
-#[cycle(and_row_or_row_walk)]
-pub(crate) fn and_row(
-    book: &Book,
-    n: u16,
-    children: &[u16],
-    for_usage: bool,
-    mark: StrictNorm,
-    bench: &mut Vec<Normal>,
-) -> StrictNorm
-    requires below { AllBelow n children.now }
-    requires within { n < length (plain_of book.now).nodes }
-    requires room { Room (vec_len bench.old) (vec_capacity bench.old) (3 * weight (Tree.and (row_at (plain_of book.now) children.now))) }
-    ensures value { entries (plain_of book.now) bench.new.items ≡ entries (plain_of book.now) bench.old.items ++ post (nf (Tree.and (row_at (plain_of book.now) children.now)) for_usage (mark_of mark)).tree }
-    ensures made { mark_of result ≡ (nf (Tree.and (row_at (plain_of book.now) children.now)) for_usage (mark_of mark)).mark }
-    ensures len { vec_len bench.new + 1 ≤ vec_len bench.old + 3 * weight (Tree.and (row_at (plain_of book.now) children.now)) }
-    ensures same { vec_capacity bench.new ≡ vec_capacity bench.old }
-{
-    let row = bench.len();
-    let mut run = mark;
-    let mut held: u16 = 0;
-    for child in children {
+// A book whose nodes are put in normal form, for usage or not.
+#[derive(Clone, Copy)]
+pub struct Walk<'a> {
+    pub book: &'a Book,
+    pub for_usage: bool,
+}
+
+impl<'a> Walk<'a> {
+    // Puts the normal form of the tree at `root`, as a root, in place of what the bench holds.
+    pub(crate) fn root(&self, root: u16, bench: &mut Bench)
+        requires within { root < length self.now.book.now.nodes }
+        requires room { 3 * weight (tree_at self.now.book.now root)
+            ≤ min bench.old.places most }
+        ensures nodes { held self.now.book.now bench.new
+            ≡ normal_entries self.now.book.now root self.now.for_usage }
+        ensures same { bench.new.places ≡ bench.old.places }
+    {
+        bench.clear();
+        let back = self.node(root, StrictNorm::Pull, bench);
+        bench.bare();
+        bench.wrap(0, StrictNorm::Pull, back);
+    }
+
+    // Puts the normal form of the node `n` at the bench's end, and answers the mark that it comes back
+    // with, which is a value of the rules' own walk. A number comes from a node's children, so that it is
+    // a node is asked of the caller.
+    #[cycle(walk)]
+    fn node(&self, n: u16, mark: StrictNorm, bench: &mut Bench) -> StrictNorm
+        requires within { n < length self.now.book.now.nodes }
+        requires room { Room bench.old (3 * weight (tree_at self.now.book.now n)) }
+        ensures { Walks self.now.book.now bench.old bench.new
+            (tree_at self.now.book.now n)
+            self.now.for_usage mark result }
+    {
         let start = bench.len();
-        let back = walk(book, *child, for_usage, run, bench);
-        wrap(bench, start, run, back);
-        let settled = settle(bench, start, false);
-        run = run.next(back);
-        if settled.kept {
-            held += 1;
+        match self.book.meta(n) {
+            // Not met, since `n` is a node.
+            None => mark,
+            Some(Meta::Skip) => {
+                bench.leaf(Form::Skip);
+                mark
+            }
+            Some(Meta::Item(item)) => {
+                let item = one_named(item, self.for_usage);
+                bench.leaf(Form::Item { node: n, item });
+                mark
+            }
+            Some(Meta::And(children)) => self.row(Row::And, n, children, mark, bench),
+            Some(Meta::Or(children)) => self.row(Row::Or, n, children, mark, bench),
+            Some(Meta::Adjacent(child) | Meta::Subsection(child, _) | Meta::Suffix(child, _)) => {
+                self.node(child, mark, bench)
+            }
+            Some(Meta::Strict(child)) => self.node(child, mark, bench).push(),
+            // Four kinds take a step behind their child; a table of the steps would be no plainer.
+            Some(Meta::CustomUsage(child, note)) => {
+                let back = self.node(child, mark, bench);
+                if self.for_usage {
+                    bench.custom(start, self.book, note);
+                }
+                back
+            }
+            Some(Meta::Many(child)) => {
+                let back = self.node(child, mark, bench);
+                bench.many(start);
+                back
+            }
+            Some(Meta::Required(child)) => {
+                let back = self.node(child, mark, bench);
+                bench.required(start);
+                back
+            }
+            Some(Meta::Optional(child)) => {
+                let back = self.node(child, mark, bench);
+                bench.optional(start);
+                back
+            }
         }
     }
-    close_and(bench, row, held);
-    mark
-}
 
-// Puts the normal form of an Or likewise.
-#[cycle(and_row_or_row_walk)]
-pub(crate) fn or_row(
-    book: &Book,
-    n: u16,
-    children: &[u16],
-    for_usage: bool,
-    mark: StrictNorm,
-    bench: &mut Vec<Normal>,
-) -> StrictNorm
-    requires below { AllBelow n children.now }
-    requires within { n < length (plain_of book.now).nodes }
-    requires room { Room (vec_len bench.old) (vec_capacity bench.old) (3 * weight (Tree.or (row_at (plain_of book.now) children.now))) }
-    ensures value { entries (plain_of book.now) bench.new.items ≡ entries (plain_of book.now) bench.old.items ++ post (nf (Tree.or (row_at (plain_of book.now) children.now)) for_usage (mark_of mark)).tree }
-    ensures made { mark_of result ≡ (nf (Tree.or (row_at (plain_of book.now) children.now)) for_usage (mark_of mark)).mark }
-    ensures len { vec_len bench.new + 1 ≤ vec_len bench.old + 3 * weight (Tree.or (row_at (plain_of book.now) children.now)) }
-    ensures same { vec_capacity bench.new ≡ vec_capacity bench.old }
-{
-    let row = bench.len();
-    let mut run = mark;
-    let mut seen = false;
-    let mut held: u16 = 0;
-    for child in children {
+    // Puts the normal form of a row over `children`, which are below `n`, at the bench's end.
+    #[cycle(walk)]
+    fn row(
+        &self,
+        row: Row,
+        n: u16,
+        children: &[u16],
+        mark: StrictNorm,
+        bench: &mut Bench,
+    ) -> StrictNorm
+        requires below { AllBelow n children.now }
+        requires within { n < length self.now.book.now.nodes }
+        requires room { Room bench.old
+            (3 * weight (tree_of row (row_at self.now.book.now children.now))) }
+        ensures { Walks self.now.book.now bench.old bench.new
+            (tree_of row (row_at self.now.book.now children.now))
+            self.now.for_usage mark result }
+    {
         let start = bench.len();
-        let back = walk(book, *child, for_usage, mark, bench);
-        wrap(bench, start, run, back);
-        let settled = settle(bench, start, seen);
-        seen = settled.seen;
-        run = run.next(back);
-        if settled.kept {
-            held += 1;
+        let mut run = mark;
+        let mut seen = false;
+        let mut kept: u16 = 0;
+        for child in children {
+            let at = bench.len();
+            let back = self.node(*child, row.starts(mark, run), bench);
+            bench.wrap(at, run, back);
+            run = run.next(back);
+            let form = bench.top();
+            if row.keeps(form, seen) {
+                kept += 1;
+            } else {
+                bench.cut(at);
+            }
+            seen |= form.is_command();
         }
+        bench.close(row, start, kept);
+        row.ends(mark, run)
     }
-    close_or(bench, row, held);
-    run
-}
-
-// Puts the normal form of the node `n` at the bench's end, and answers the mark that it comes back with.
-#[cycle(and_row_or_row_walk)]
-pub(crate) fn walk(
-    book: &Book,
-    n: u16,
-    for_usage: bool,
-    mark: StrictNorm,
-    bench: &mut Vec<Normal>,
-) -> StrictNorm
-    requires within { n < length (plain_of book.now).nodes }
-    requires room { Room (vec_len bench.old) (vec_capacity bench.old) (3 * weight (tree_at (plain_of book.now) n)) }
-    ensures value { entries (plain_of book.now) bench.new.items ≡ entries (plain_of book.now) bench.old.items ++ post (nf (tree_at (plain_of book.now) n) for_usage (mark_of mark)).tree }
-    ensures made { mark_of result ≡ (nf (tree_at (plain_of book.now) n) for_usage (mark_of mark)).mark }
-    ensures len { vec_len bench.new + 1 ≤ vec_len bench.old + 3 * weight (tree_at (plain_of book.now) n) }
-    ensures same { vec_capacity bench.new ≡ vec_capacity bench.old }
-{
-    let start = bench.len();
-    match book.meta(n) {
-        None => mark,
-        Some(Meta::Skip) => {
-            put(bench, start, Form::Skip, 0);
-            mark
-        }
-        Some(Meta::Item(item)) => {
-            let item = one_named(item, for_usage);
-            put(bench, start, Form::Item { node: n, item }, 0);
-            mark
-        }
-        Some(Meta::And(children)) => and_row(book, n, children, for_usage, mark, bench),
-        Some(Meta::Or(children)) => or_row(book, n, children, for_usage, mark, bench),
-        Some(Meta::Adjacent(child)) => walk(book, child, for_usage, mark, bench),
-        Some(Meta::Subsection(child, _)) => walk(book, child, for_usage, mark, bench),
-        Some(Meta::Suffix(child, _)) => walk(book, child, for_usage, mark, bench),
-        Some(Meta::Strict(child)) => walk(book, child, for_usage, mark, bench).push(),
-        Some(Meta::CustomUsage(child, note)) => {
-            let back = walk(book, child, for_usage, mark, bench);
-            custom(bench, start, for_usage, note, book.is_blank(note));
-            back
-        }
-        Some(Meta::Many(child)) => {
-            let back = walk(book, child, for_usage, mark, bench);
-            many(bench, start);
-            back
-        }
-        Some(Meta::Required(child)) => {
-            let back = walk(book, child, for_usage, mark, bench);
-            required(bench, start);
-            back
-        }
-        Some(Meta::Optional(child)) => {
-            let back = walk(book, child, for_usage, mark, bench);
-            optional(bench, start);
-            back
-        }
-    }
-}
-
-// Puts the normal form of the tree at `root`, as a root, at the bench's end.
-pub(crate) fn normalise_root(book: &Book, root: u16, for_usage: bool, bench: &mut Vec<Normal>)
-    requires within { root < length (plain_of book.now).nodes }
-    requires room { Room (vec_len bench.old) (vec_capacity bench.old) (3 * weight (tree_at (plain_of book.now) root)) }
-    ensures value { entries (plain_of book.now) bench.new.items ≡ entries (plain_of book.now) bench.old.items ++ post (normal for_usage (tree_at (plain_of book.now) root)) }
-    ensures len { vec_len bench.new ≤ vec_len bench.old + 3 * weight (tree_at (plain_of book.now) root) }
-    ensures same { vec_capacity bench.new ≡ vec_capacity bench.old }
-{
-    let start = bench.len();
-    let back = walk(book, root, for_usage, StrictNorm::Pull, bench);
-    bare(bench);
-    wrap(bench, start, StrictNorm::Pull, back);
 }

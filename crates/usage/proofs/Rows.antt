@@ -1,13 +1,13 @@
 -- Rows of trees, from their last tree.
-use Rattle.std.proofs.Common.{◌≡◌, ℕ, suc, ◌≤◌, List, [], ◌++◌, sym, refl, ap, ◌∙◌, append_assoc, arith}
+use Rattle.std.proofs.Common.{◌≡◌, suc, ◌≤◌, List, [], ◌++◌, sym, refl, ap, ◌∙◌, append_assoc, arith}
 use Rattle.std.proofs.lemmas.List.{append-nil}
 use Rattle.rules.specs.Tree.{Meta, Metas}
 use Rattle.rules.specs.Tree.Metas.{none, more}
-use Rattle.rules.specs.Reading.{Element, then, reading, joined, joined_rest}
+use Rattle.rules.specs.Reading.{Element, concat, reading, joined, joined_rest}
 use Rattle.rules.specs.Reading as R
 use Rattle.rules.specs.Content.{Op, element_ops, spell}
 use Rattle.normal.specs.Bench.{Entry, len, post, posts}
-use Rattle.usage.proofs.Spelled.{spell-then}
+use Rattle.usage.proofs.Spelled.{spell-concat}
 
 -- a row with one more tree at its end
 abbrev pub with_last : Metas → Meta → Metas
@@ -21,15 +21,11 @@ pub record Parted (ts : Metas) : Type 0 where
   pub is : ts ≡ with_last front last
   pub count : len ts ≡ suc (len front)
 
-parted_more : (t : Meta) (ts : Metas) → Parted (more t ts)
+pub parted_more : (t : Meta) (ts : Metas) → Parted (more t ts)
 parted_more t none = record { front = none; last = t; is = refl; count = refl }
 parted_more t (more u ts) =
     let r = parted_more u ts in
     record { front = more t r.front; last = r.last; is = ap (more t) r.is; count = ap suc r.count }
-
-pub parted : (ts : Metas) (n : ℕ) → len ts ≡ suc n → Parted ts
-parted none n e = absurd (omega arith)
-parted (more t ts) n e = parted_more t ts
 
 pub posts_last : (us : Metas) (u : Meta) → posts (with_last us u) ≡ posts us ++ post u
 posts_last none u = append-nil (post u)
@@ -38,27 +34,27 @@ posts_last (more t us) u =
 
 rest_last : (e : Element) (us : Metas) (u : Meta) → spell (joined_rest e (with_last us u)) ≡ spell (joined_rest e us) ++ (element_ops e ++ spell (reading u))
 rest_last e none u =
-    ap (λ (ops : List Op). element_ops e ++ ops) (spell-then (reading u) R.end ∙ append-nil (spell (reading u)))
+    ap (λ (ops : List Op). element_ops e ++ ops) (spell-concat (reading u) R.end ∙ append-nil (spell (reading u)))
 rest_last e (more t us) u =
     ap (λ (ops : List Op). element_ops e ++ ops)
-    (spell-then (reading t) (joined_rest e (with_last us u))
+    (spell-concat (reading t) (joined_rest e (with_last us u))
     ∙ ap (λ (ops : List Op). spell (reading t) ++ ops) (rest_last e us u)
     ∙ sym (append_assoc (spell (reading t)) (spell (joined_rest e us)) (element_ops e ++ spell (reading u)))
-    ∙ ap (λ (ops : List Op). ops ++ (element_ops e ++ spell (reading u))) (sym (spell-then (reading t) (joined_rest e us))))
-    ∙ sym (append_assoc (element_ops e) (spell (then (reading t) (joined_rest e us))) (element_ops e ++ spell (reading u)))
+    ∙ ap (λ (ops : List Op). ops ++ (element_ops e ++ spell (reading u))) (sym (spell-concat (reading t) (joined_rest e us))))
+    ∙ sym (append_assoc (element_ops e) (spell (concat (reading t) (joined_rest e us))) (element_ops e ++ spell (reading u)))
 
 -- a row of several, as those before the last, the element between, and the last
 pub joined-last : (e : Element) (us : Metas) (u : Meta) → 1 ≤ len us → spell (joined e (with_last us u)) ≡ spell (joined e us) ++ (element_ops e ++ spell (reading u))
 joined-last e none u l = absurd (omega arith)
 joined-last e (more t us) u l =
-    spell-then (reading t) (joined_rest e (with_last us u))
+    spell-concat (reading t) (joined_rest e (with_last us u))
     ∙ ap (λ (ops : List Op). spell (reading t) ++ ops) (rest_last e us u)
     ∙ sym (append_assoc (spell (reading t)) (spell (joined_rest e us)) (element_ops e ++ spell (reading u)))
-    ∙ ap (λ (ops : List Op). ops ++ (element_ops e ++ spell (reading u))) (sym (spell-then (reading t) (joined_rest e us)))
+    ∙ ap (λ (ops : List Op). ops ++ (element_ops e ++ spell (reading u))) (sym (spell-concat (reading t) (joined_rest e us)))
 
 -- a row of one
 pub joined-one : (e : Element) (us : Metas) (u : Meta) → len us ≡ 0 → spell (joined e (with_last us u)) ≡ spell (reading u)
-joined-one e none u l = spell-then (reading u) R.end ∙ append-nil (spell (reading u))
+joined-one e none u l = spell-concat (reading u) R.end ∙ append-nil (spell (reading u))
 joined-one e (more t us) u l = absurd (omega arith)
 
 -- a row of none

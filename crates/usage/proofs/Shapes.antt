@@ -1,14 +1,20 @@
 -- From the top of a tree to its shape.
-use Rattle.std.proofs.Common.{◌≡◌, ℕ, suc, ◌+◌, ◌-◌, ◌<◌, ◌≤◌, List, [], ◌∷◌, ◌++◌, length, get_or, take, sym, refl, ap, ◌∙◌, subst, append_assoc, arith, length-append}
-use Rattle.std.proofs.lemmas.List.{take_more, take_at, take-take, length-take-le}
+use Rattle.std.proofs.Common.{◌≡◌, ℕ, ◌+◌, ◌-◌, ◌<◌, ◌≤◌, true, false, eqb, Bor, List, [], ◌∷◌, ◌++◌, length, take, drop, Some, Option, sym, refl, ap, ◌∙◌, append_assoc, arith, length-append}
+use Rattle.std.proofs.lemmas.Bool.{eqb-true, eqb-false}
+use Rattle.std.proofs.lemmas.List.{map-append, take_at, drop_at, same_from_push}
+use Rattle.std.proofs.lemmas.Option.{MatchOption-at_some}
+use Rattle.std.specs.Prelude.{MatchOption}
+use Rattle.std.specs.List.{IsLastAndRest}
 use Rattle.rules.specs.Plain.{Plain}
 use Rattle.rules.specs.Tree.{Meta, Metas, inside}
+use Rattle.rules.specs.Reading.{Element, reading, joined}
+use Rattle.rules.specs.Content.{element_ops, spell}
 use Rattle.normal.specs.Bench.{Top, Entry, len, seal, post, posts, top_of, entry_of, entries}
 use Rattle.normal.specs.declared.bench.Form.{Form}
 use Rattle.normal.specs.declared.bench.Normal.{Normal}
-use Rattle.normal.proofs.Tops.{length-entries, entries-get_or}
-use Rattle.usage.specs.Standing.{Ends, TreeAt, RowTo, size_at}
-use Rattle.usage.proofs.Rows.{Parted, parted, posts_last}
+use Rattle.normal.proofs.Tops.{length-entries}
+use Rattle.usage.specs.Standing.{IsTree, IsRow}
+use Rattle.usage.proofs.Rows.{Parted, parted_more, posts_last, spelled_one, spelled_more}
 
 abbrev pub top_of_tree : Meta → Top
 top_of_tree Meta.skip = Top.skip
@@ -112,129 +118,133 @@ sealed (Meta.suffix t n) = refl
 sealed (Meta.custom_usage t n) = refl
 sealed (Meta.item n i) = refl
 
-last-same : {A : Type 0} (xs ys : List A) (x y : A) → xs ++ x ∷ [] ≡ ys ++ y ∷ [] → (xs ≡ ys) × (x ≡ y)
-last-same [] [] x y e = (refl, cc)
-last-same [] (b ∷ ys) x y e =
-    let l = ap length e in
-    let m = length-append ys (y ∷ []) in
-    absurd (omega arith)
-last-same (a ∷ xs) [] x y e =
-    let l = ap length e in
-    let m = length-append xs (x ∷ []) in
-    absurd (omega arith)
-last-same (a ∷ xs) (b ∷ ys) x y e =
-    let f : xs ++ x ∷ [] ≡ ys ++ y ∷ [] = cc in
-    let g : a ≡ b = cc in
-    let r = last-same xs ys x y f in
-    (cc (g, r.0), r.1)
-
--- the entry at a tree's place is its top, and before it stands what is below it
-top_at : (es : List Entry) (at : ℕ) (d : Entry) (t : Meta) → TreeAt es at t → Ends es at (body_of t) × (get_or es at d ≡ record { top = top_of_tree t; count = count_of t; size = length (body_of t) + 1 })
-top_at es at d t (before, is, within) =
-    let h : at < length es = omega arith in
-    let x : Entry = record { top = top_of_tree t; count = count_of t; size = length (body_of t) + 1 } in
-    let f : take at es ++ get_or es at d ∷ [] ≡ (before ++ body_of t) ++ x ∷ [] =
-    sym (take_more es at d h) ∙ is ∙ ap (λ (xs : List Entry). before ++ xs) (sealed t) ∙ sym (append_assoc before (body_of t) (x ∷ [])) in
-    let r = last-same (take at es) (before ++ body_of t) (get_or es at d) x f in
-    ((before, r.0, omega arith), r.1)
-
--- what the node at a tree's place tells of the tree
-pub record Opened (p : Plain) (ns : List Normal) (at : ℕ) (d : Normal) (f : Form) (t : Meta) : Type 0 where
-  pub shape : t ≡ rebuilt (top_of p f) t
-  pub below : Ends (entries p ns) at (body_of (rebuilt (top_of p f) t))
-  pub count : count_of (rebuilt (top_of p f) t) ≡ (get_or ns at d).count
-
-node_at : (p : Plain) (ns : List Normal) (at : ℕ) (d : Normal) (t : Meta) → TreeAt (entries p ns) at t → entry_of p (get_or ns at d) ≡ record { top = top_of_tree t; count = count_of t; size = length (body_of t) + 1 }
-node_at p ns at d t h = entries-get_or p at ns d ∙ (top_at (entries p ns) at (entry_of p d) t h).1
-
-pub opened : (p : Plain) (ns : List Normal) (at : ℕ) (d : Normal) (f : Form) (t : Meta) → (get_or ns at d).form ≡ f → TreeAt (entries p ns) at t → Opened p ns at d f t
-opened p ns at d f t e h =
-    let n = node_at p ns at d t h in
-    let top : top_of p f ≡ top_of_tree t = ap (top_of p) (sym e) ∙ ap (λ (x : Entry). x.top) n in
-    let shape : t ≡ rebuilt (top_of p f) t = whole t ∙ ap (λ (x : Top). rebuilt x t) (sym top) in
-    record {
-      shape = shape;
-      below = subst (λ (u : Meta). Ends (entries p ns) at (body_of u)) shape (top_at (entries p ns) at (entry_of p d) t h).0;
-      count = ap count_of (sym shape) ∙ sym (ap (λ (x : Entry). x.count) n);
-    }
-
 post_length : (t : Meta) → length (post t) ≡ length (body_of t) + 1
 post_length t = ap length (sealed t) ∙ length-append (body_of t) _
 
--- the node at a tree's place tells how many entries the tree has
-pub size_at_lem : (p : Plain) (ns : List Normal) (at : ℕ) (d : Normal) (t : Meta) → TreeAt (entries p ns) at t → (get_or ns at d).size ≡ length (post t)
-size_at_lem p ns at d t h = ap (λ (x : Entry). x.size) (node_at p ns at d t h) ∙ sym (post_length t)
+-- the entry of a tree's top
+abbrev pub top_entry : Meta → Entry
+top_entry t = record { top = top_of_tree t; count = count_of t; size = length (body_of t) + 1 }
 
-pub within_nodes : (p : Plain) (ns : List Normal) (end : ℕ) (es : List Entry) → Ends (entries p ns) end es → end ≤ length ns
-within_nodes p ns end es h = let l = length-entries p ns in omega (arith, h.2)
+-- the nodes before the last are what is below the top, and the last is the top
+ends : (p : Plain) (tree below : List Normal) (top : Normal) (es : List Entry) (t : Meta) → tree ≡ below ++ top ∷ [] → entries p tree ≡ es ++ post t
+    → (entries p below ≡ es ++ body_of t) × (entry_of p top ≡ top_entry t)
+ends p tree below top es t cut is =
+    same_from_push (entries p below) (es ++ body_of t) (entry_of p top) (top_entry t)
+    (sym (map-append (entry_of p) below (top ∷ [])) ∙ sym (ap (entries p) cut) ∙ is ∙ ap (λ (xs : List Entry). es ++ xs) (sealed t)
+    ∙ sym (append_assoc es (body_of t) (top_entry t ∷ [])))
 
-ends-length : (es part : List Entry) (end : ℕ) (h : Ends es end part) → length h.0 + length part ≡ end
-ends-length es part end (before, is, within) =
-    sym (length-append before part) ∙ sym (ap length is) ∙ length-take-le end es within
-
--- a tree has a top
-pub some-before : (es : List Entry) (end : ℕ) (t : Meta) → Ends es end (post t) → 1 ≤ end
-some-before es end t h =
-    let l = ends-length es (post t) end h in
-    let m = post_length t in
-    omega arith
-
-pub tree-before : (es : List Entry) (end : ℕ) (t : Meta) → Ends es end (post t) → TreeAt es (end - 1) t
-tree-before es end t h =
-    let s = some-before es end t h in
-    let e : end ≡ (end - 1) + 1 = omega arith in
-    subst (λ (n : ℕ). Ends es n (post t)) e h
-
--- a tree with one child has the child's top right before its own
-pub record Child (p : Plain) (ns : List Normal) (at : ℕ) (f : Form) (t : Meta) : Type 0 where
+-- what the last node of a tree tells of it, and of the nodes before it
+pub record Opened (p : Plain) (tree below : List Normal) (f : Form) (t : Meta) : Type 0 where
   pub shape : t ≡ rebuilt (top_of p f) t
-  pub some : 1 ≤ at
-  pub tree : TreeAt (entries p ns) (at - 1) (inside t)
+  pub body : entries p below ≡ body_of (rebuilt (top_of p f) t)
+  pub smaller : length below < length tree
 
-pub child : (p : Plain) (ns : List Normal) (at : ℕ) (d : Normal) (f : Form) (t : Meta) → body_of (rebuilt (top_of p f) t) ≡ post (inside t) → (get_or ns at d).form ≡ f → TreeAt (entries p ns) at t → Child p ns at f t
-child p ns at d f t b e h =
-    let o = opened p ns at d f t e h in
-    let k : Ends (entries p ns) at (post (inside t)) = subst (λ (xs : List Entry). Ends (entries p ns) at xs) b o.below in
+pub opened : {p : Plain} {tree : List Normal} {r : Option (Bor Normal × Bor (List Normal))} {x : Bor Normal × Bor (List Normal)} (f : Form) (t : Meta)
+    → MatchOption r (length tree ≡ 0) (λ y. IsLastAndRest tree y.0.now y.1.now) → r ≡ Some x → x.0.now.form ≡ f → IsTree p tree t → Opened p tree x.1.now f t
+opened {p} {tree} {r} {x} f t cases some e is =
+    let cut : IsLastAndRest tree x.0.now x.1.now = MatchOption-at_some (length tree ≡ 0) (λ y. IsLastAndRest tree y.0.now y.1.now) x some cases in
+    let both = ends p tree x.1.now x.0.now [] t cut.0 is in
+    let tops : top_of p f ≡ top_of_tree t = ap (top_of p) (sym e) ∙ ap (λ (n : Entry). n.top) both.1 in
+    let shape : t ≡ rebuilt (top_of p f) t = whole t ∙ ap (λ (n : Top). rebuilt n t) (sym tops) in
     record {
-      shape = o.shape;
-      some = some-before (entries p ns) at (inside t) k;
-      tree = tree-before (entries p ns) at (inside t) k;
+      shape = shape;
+      body = both.0 ∙ ap body_of shape;
+      smaller = omega (arith, cut.1);
     }
 
--- the last tree of a row, and the row before it, by the size that the last tree's top tells
-pub record Split (p : Plain) (ns : List Normal) (end before : ℕ) (ts : Metas) (n : ℕ) : Type 0 where
-  pub parts : Parted ts
-  pub count : len parts.front ≡ n
-  pub some : 1 ≤ end
-  pub within : end ≤ length ns
-  pub least : 1 ≤ size_at ns (end - 1)
-  pub fits : size_at ns (end - 1) ≤ end
-  pub tree : TreeAt (entries p ns) (end - 1) parts.last
-  pub row : RowTo (entries p ns) before parts.front
+-- a tree has a top
+pub tree-some : (p : Plain) (tree : List Normal) (t : Meta) → IsTree p tree t → 0 < length tree
+tree-some p tree t is =
+    let l = length-entries p tree in
+    let m = ap length is in
+    let n = post_length t in
+    omega arith
 
-pub split : (p : Plain) (ns : List Normal) (end before : ℕ) (ts : Metas) (n : ℕ) → before ≡ end - size_at ns (end - 1) → len ts ≡ suc n → RowTo (entries p ns) end ts → Split p ns end before ts n
-split p ns end before ts n s e (front, is, within) =
-    let q = parted ts n e in
-    let c = q.count in
-    let u = q.last in
-    let es = entries p ns in
-    let f : take end es ≡ (front ++ posts q.front) ++ post u =
-    is ∙ ap (λ (us : Metas). front ++ posts us) q.is ∙ ap (λ (xs : List Entry). front ++ xs) (posts_last q.front u)
-    ∙ sym (append_assoc front (posts q.front) (post u)) in
-    let h : Ends es end (post u) = (front ++ posts q.front, f, within) in
-    let tree = tree-before es end u h in
-    let z : size_at ns (end - 1) ≡ length (post u) = size_at_lem p ns (end - 1) _ u tree in
-    let l : length (front ++ posts q.front) + length (post u) ≡ end = ends-length es (post u) end h in
-    let m = post_length u in
-    let k : length (front ++ posts q.front) ≡ before = omega arith in
-    let b : before ≤ end = omega arith in
+-- a row without nodes has no tree, and one with nodes has some
+pub row-none : (p : Plain) (row : List Normal) (ts : Metas) → IsRow p row ts → length row ≡ 0 → len ts ≡ 0
+row-none p row Metas.none is e = refl
+row-none p row (Metas.more t ts) is e =
+    let l = length-entries p row in
+    let m = ap length is in
+    let n = length-append (post t) (posts ts) in
+    let k = post_length t in
+    absurd (omega arith)
+
+pub row-some : (p : Plain) (row : List Normal) (ts : Metas) → IsRow p row ts → 0 < length row → 1 ≤ len ts
+row-some p row Metas.none is h =
+    let l = length-entries p row in
+    let m = ap length is in
+    absurd (omega arith)
+row-some p row (Metas.more t ts) is h = omega arith
+
+-- the last tree of a row, and the row before it, which has trees exactly where it has nodes
+pub record Split (p : Plain) (row front last : List Normal) (ts : Metas) : Type 0 where
+  pub front_trees : Metas
+  pub last_tree : Meta
+  pub last_is : IsTree p last last_tree
+  pub front_is : IsRow p front front_trees
+  pub smaller : length front < length row
+  pub alone : (e : Element) → eqb (length front) 0 ≡ true → spell (joined e ts) ≡ spell (reading last_tree)
+  pub behind : (e : Element) → eqb (length front) 0 ≡ false → spell (joined e ts) ≡ spell (joined e front_trees) ++ (element_ops e ++ spell (reading last_tree))
+
+-- the parts of a row that is cut before its last tree
+record Halves (p : Plain) (front last : List Normal) (us : Metas) (u : Meta) : Type 0 where
+  tree : IsTree p last u
+  row : IsRow p front us
+
+-- the last tree of a row is not larger than the row
+last_size : (p : Plain) (row rest : List Normal) (top : Normal) (us : Metas) (u : Meta) → row ≡ rest ++ top ∷ [] → entries p row ≡ posts us ++ post u
+    → (top.size ≡ length (post u)) × (length row ≡ length (posts us) + length (post u))
+last_size p row rest top us u cut whole =
+    let both = ends p row rest top (posts us) u cut whole in
+    (ap (λ (n : Entry). n.size) both.1 ∙ sym (post_length u), sym (length-entries p row) ∙ ap length whole ∙ length-append (posts us) (post u))
+
+halves : (p : Plain) (row front last rest : List Normal) (top : Normal) (us : Metas) (u : Meta) → row ≡ rest ++ top ∷ [] → row ≡ front ++ last
+    → length front ≡ length row - top.size → entries p row ≡ posts us ++ post u → Halves p front last us u
+halves p row front last rest top us u cut apart long whole =
+    let before = posts us in
+    let size = last_size p row rest top us u cut whole in
+    let n : length (entries p front) ≡ length before = (let l = length-entries p front in omega (arith, size.0, size.1)) in
+    let same : entries p front ++ entries p last ≡ before ++ post u = sym (map-append (entry_of p) front last) ∙ sym (ap (entries p) apart) ∙ whole in
     record {
-      parts = q;
-      count = omega arith;
-      some = some-before es end u h;
-      within = within_nodes p ns end (post u) h;
-      least = omega arith;
-      fits = omega arith;
-      tree = tree;
-      row = (front, sym (take-take before end es b) ∙ ap (take before) f ∙ take_at (front ++ posts q.front) (post u) before k, omega arith);
+      tree = sym (drop_at (entries p front) (entries p last) (length before) n) ∙ ap (drop (length before)) same ∙ drop_at before (post u) (length before) refl;
+      row = sym (take_at (entries p front) (entries p last) (length before) n) ∙ ap (take (length before)) same ∙ take_at before (post u) (length before) refl;
+    }
+
+-- a row that has a node has a last tree
+parts_of : (p : Plain) (row rest : List Normal) (top : Normal) (ts : Metas) → row ≡ rest ++ top ∷ [] → IsRow p row ts → Parted ts
+parts_of p row rest top Metas.none cut is =
+    let n = ap length is in
+    let l = length-entries p row in
+    let m = ap length cut in
+    let k = length-append rest (top ∷ []) in
+    absurd (omega arith)
+parts_of p row rest top (Metas.more t ts) cut is = parted_more t ts
+
+whole_row : (p : Plain) (row : List Normal) (ts : Metas) (q : Parted ts) → IsRow p row ts → entries p row ≡ posts q.front ++ post q.last
+whole_row p row ts q is = is ∙ ap posts q.is ∙ posts_last q.front q.last
+
+-- the last tree of a row is not larger than the row
+pub fits_row : (p : Plain) (row rest : List Normal) (top : Normal) (ts : Metas) → row ≡ rest ++ top ∷ [] → IsRow p row ts → top.size ≤ length row
+fits_row p row rest top ts cut is =
+    let q = parts_of p row rest top ts cut is in
+    let size = last_size p row rest top q.front q.last cut (whole_row p row ts q is) in
+    omega (arith, size.0, size.1)
+
+pub split : {p : Plain} {row front last : List Normal} {size : ℕ} (rest : List Normal) (top : Normal) (ts : Metas) → row ≡ rest ++ top ∷ [] → row ≡ front ++ last
+    → size ≡ top.size → length front ≡ length row - size → IsRow p row ts → Split p row front last ts
+split {p} {row} {front} {last} {size} rest top ts cut apart told long is =
+    let q = parts_of p row rest top ts cut is in
+    let whole = whole_row p row ts q is in
+    let sizes = last_size p row rest top q.front q.last cut whole in
+    let tree = post_length q.last in
+    let half = halves p row front last rest top q.front q.last cut apart (long ∙ ap (λ n. length row - n) told) whole in
+    record {
+      front_trees = q.front;
+      last_tree = q.last;
+      last_is = half.tree;
+      front_is = half.row;
+      smaller = omega (arith, sizes.0, sizes.1);
+      alone = λ e none. spelled_one e ts q (let n = row-none p front q.front half.row (eqb-true (length front) 0 none) in let m = q.count in omega arith);
+      behind = λ e some. spelled_more e ts q (let h : 0 < length front = omega (arith, eqb-false (length front) 0 some) in let n = row-some p front q.front half.row h in let m = q.count in omega arith);
     }

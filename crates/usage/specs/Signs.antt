@@ -1,6 +1,6 @@
 -- What the signs of a line are in the rules.
 use Rattle.std.specs.Prelude.{List, [], ◌∷◌, codes}
-use Rattle.rules.specs.Style as S
+use Rattle.terms.specs.declared.text.Style.TheVariants as S
 use Rattle.rules.specs.Reading.{Element}
 use Rattle.rules.specs.Reading as R
 use Rattle.rules.specs.Content.{Op, str}
@@ -16,10 +16,10 @@ element_of J.Bar = R.bar
 
 -- what opens a bracket
 abbrev pub open_ops : Bracket → List Op
-open_ops B.Round = str S.text (codes "(") ∷ []
-open_ops B.Square = str S.text (codes "[") ∷ []
+open_ops B.Round = str S.Text (codes "(") ∷ []
+open_ops B.Square = str S.Text (codes "[") ∷ []
 
 -- what closes a bracket
 abbrev pub close_ops : Bracket → List Op
-close_ops B.Round = str S.text (codes ")") ∷ []
-close_ops B.Square = str S.text (codes "]") ∷ []
+close_ops B.Round = str S.Text (codes ")") ∷ []
+close_ops B.Square = str S.Text (codes "]") ∷ []

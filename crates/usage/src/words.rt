@@ -3,17 +3,16 @@ ghost use Rattle.rules.specs.Tree.{Short, Long};
 ghost use Rattle.rules.specs.Reading.{item_reading};
 ghost use Rattle.rules.specs.Content.{short_long, element_ops};
 ghost use Rattle.buffer.specs.Contents.{Wrote};
-ghost use Rattle.meta.specs.View.{plain_of};
 ghost use Rattle.meta.specs.Items.{name_in, item_of};
 
 use buffer::sheet::{Full, Sheet};
-use buffer::token::Style;
 use meta::book::Book;
 use meta::item::{Item, ShortLong};
+use terms::text::Style;
 
 // A short behind one dash, or else the long behind two.
 pub(crate) fn write_shortlong(sheet: &mut Sheet, book: &Book, name: ShortLong) -> Result<(), Full>
-    ensures { Wrote sheet.old (short_long (name_in (plain_of book.now) name)) sheet.new result }
+    ensures { Wrote sheet.old (short_long (name_in book.now name)) sheet.new result }
 {
     match name {
         ShortLong::Short(short) => write_short(sheet, short),
@@ -21,6 +20,7 @@ pub(crate) fn write_shortlong(sheet: &mut Sheet, book: &Book, name: ShortLong) -
     }
 }
 
+// Two writes, as the next has: one function of both texts would be no shorter.
 fn write_short(sheet: &mut Sheet, short: u8) -> Result<(), Full>
     ensures { Wrote sheet.old (short_long (Short short)) sheet.new result }
 {
@@ -37,7 +37,7 @@ fn write_long(sheet: &mut Sheet, long: &[u8]) -> Result<(), Full>
 
 // An item as a usage line has it: a command is not named.
 pub(crate) fn write_item(sheet: &mut Sheet, book: &Book, item: Item) -> Result<(), Full>
-    ensures { Wrote sheet.old (element_ops (item_reading (item_of (plain_of book.now) item))) sheet.new result }
+    ensures { Wrote sheet.old (element_ops (item_reading (item_of book.now item))) sheet.new result }
 {
     match item {
         Item::Any { metavar, .. } => sheet.doc(book.store(), usize::from(metavar)),

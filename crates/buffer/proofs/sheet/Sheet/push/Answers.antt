@@ -1,29 +1,28 @@
-use Rattle.std.proofs.Common.{[], ◌∷◌, map, refl, ap, ◌∙◌, arith, rules}
-use lib.ListN.{length-map}
-use Rattle.rules.specs.Notes.{sizes}
+use Rattle.std.proofs.Common.{[], ◌∷◌, List, refl, ap, ◌∙◌, arith, rules}
+use Rattle.terms.specs.Token.{sizes}
+use Rattle.terms.specs.declared.text.Token.{Token}
 use Rattle.rules.specs.Content.{apply}
-use Rattle.buffer.specs.Tokens.{token_of}
-use Rattle.buffer.specs.Contents.{content_of, limits_of}
+use Rattle.buffer.specs.Sheets.{state_of}
 use Rattle.rules.proofs.Wholes.{sizes-append}
-use Rattle.buffer.proofs.Growth.{tokens_append}
+use Rattle.buffer.proofs.Held.{held_fits}
 use Rattle.buffer.proofs.Writing.{tok_over}
 use Rattle.buffer.proofs.sheet.Sheet.push.Goals as goal
 
 pub returns-then-len-self : goal.returns-then-len-self
-unfolding content_of limits_of
 returns-then-len-self c =
-    let s = c.args.self.now in
-    (refl, tok_over (limits_of s) (content_of s) (token_of c.args.edge) (simp length-map (omega (arith, s.tokens.ok.0))), refl)
+    let s = c.self.inside in
+    let v = state_of s in
+    rw (← c.self.view_is) ((refl, tok_over v.limits v.content c.args.edge (omega (arith, s.tokens.ok.0)), refl, tt))
 
 pub invariant_of-self : goal.invariant_of-self
 invariant_of-self c =
-    let ts = c.args.self.now.tokens.items in
-    let e = tokens_append ts c.push_reserved.new.self.items (c.args.edge ∷ []) c.push_reserved.ensures.items in
-    let z = ap sizes e ∙ sizes-append (map token_of ts) (token_of c.args.edge ∷ []) in
+    let ts = c.self.inside.tokens.items in
+    let e = c.push_reserved.ensures.items in
+    let z = ap sizes e ∙ sizes-append ts (c.args.edge ∷ []) in
     search rules
 
 pub returns : goal.returns
-unfolding apply content_of limits_of
+unfolding apply
 returns c =
-    let e = tokens_append c.args.self.now.tokens.items c.push_reserved.new.self.items (c.args.edge ∷ []) c.push_reserved.ensures.items in
-    search rules
+    let e = c.push_reserved.ensures.items in
+    rw (← c.self.view_is) ((refl, ap (λ (ts : List Token). record { tokens = ts; bytes = c.self.inside.bytes.items }) e, tt, held_fits _ (invariant_of-self c)))

@@ -1,40 +1,44 @@
-use Rattle.std.proofs.Common.{map, refl, ap, ◌∙◌, arith, rules}
-use lib.ListN.{length-map}
-use Rattle.rules.specs.Notes.{sizes, Note}
+use Rattle.std.proofs.Common.{◌≡◌, length, refl, ap, ap₂, ◌∙◌, List, ℕ, arith, rules}
+use Rattle.terms.specs.Token.{sizes}
+use Rattle.terms.specs.declared.text.Token.{Token}
+use Rattle.rules.specs.Notes.{Note}
 use Rattle.rules.specs.Content.{apply}
-use Rattle.buffer.specs.Tokens.{token_of}
-use Rattle.buffer.specs.Contents.{content_of, limits_of}
+use Rattle.buffer.specs.Sheets.{state_of}
 use Rattle.rules.proofs.Wholes.{sizes-append}
-use Rattle.buffer.proofs.Growth.{tokens_append}
+use Rattle.buffer.proofs.Held.{held_fits}
+use Rattle.buffer.proofs.WholeNote.{whole_sized}
 use Rattle.buffer.proofs.Writing.{raw_over_tokens, raw_over_bytes}
 use Rattle.buffer.proofs.sheet.Sheet.raw.Goals as goal
 
 pub returns-then-tokens-self : goal.returns-then-tokens-self
-unfolding content_of limits_of
 returns-then-tokens-self c =
-    let s = c.args.self.now in
-    let n : Note = record { tokens = map token_of c.args.tokens.now; bytes = c.args.bytes.now } in
-    (refl, raw_over_tokens (limits_of s) (content_of s) n (simp length-map (omega (arith, s.tokens.ok.0))), refl)
+    let s = c.self.inside in
+    let v = state_of s in
+    rw (← c.self.view_is, ← c.note.view_is) ((refl, raw_over_tokens v.limits v.content _ (omega (arith, s.tokens.ok.0)), refl, tt))
 
-pub returns-then-bytes-self : goal.returns-then-bytes-self
-unfolding content_of limits_of
-returns-then-bytes-self c =
-    let s = c.args.self.now in
-    let n : Note = record { tokens = map token_of c.args.tokens.now; bytes = c.args.bytes.now } in
-    (refl, raw_over_bytes (limits_of s) (content_of s) n (omega (arith, s.bytes.ok.0)), refl)
+pub returns-then-text-self : goal.returns-then-text-self
+returns-then-text-self c =
+    let s = c.self.inside in
+    let v = state_of s in
+    rw (← c.self.view_is, ← c.note.view_is) ((refl, raw_over_bytes v.limits v.content _ (omega (arith, s.bytes.ok.0)), refl, tt))
 
 pub invariant_of-self : goal.invariant_of-self
 invariant_of-self c =
-    let s = c.args.self.now in
+    let s = c.self.inside in
+    let n : Note = record { tokens = c.note.inside.tokens.items; bytes = c.note.inside.text.items } in
     let k = c.extend_from_slice.ensures.succeeds (omega (arith, s.tokens.ok.0)) in
-    let e = tokens_append s.tokens.items c.extend_from_slice.new.self.items c.args.tokens.now (rw k at c.extend_from_slice.ensures.items) in
-    let z = ap sizes e ∙ sizes-append (map token_of s.tokens.items) (map token_of c.args.tokens.now) in
+    let e = rw (k, c.as_slice-tokens.ensures.value) at c.extend_from_slice.ensures.items in
+    let z = ap sizes e ∙ sizes-append s.tokens.items n.tokens in
+    let w = whole_sized n c.note.invariant in
+    let l : length c.as_slice-text.result.now ≡ length n.bytes = ap length c.as_slice-text.ensures.value in
     search rules
 
 pub returns : goal.returns
-unfolding apply content_of limits_of
+unfolding apply
 returns c =
-    let s = c.args.self.now in
+    let s = c.self.inside in
     let k = c.extend_from_slice.ensures.succeeds (omega (arith, s.tokens.ok.0)) in
-    let e = tokens_append s.tokens.items c.extend_from_slice.new.self.items c.args.tokens.now (rw k at c.extend_from_slice.ensures.items) in
-    search rules
+    let k₂ = c.extend_from_slice-2.ensures.succeeds (omega (arith, s.bytes.ok.0)) in
+    let e = rw (k, c.as_slice-tokens.ensures.value) at c.extend_from_slice.ensures.items in
+    let f = rw (k₂, c.as_slice-text.ensures.value) at c.extend_from_slice-2.ensures.items in
+    rw (← c.self.view_is, ← c.note.view_is) ((refl, ap₂ (λ (ts : List Token) (bs : List ℕ). record { tokens = ts; bytes = bs }) e f, tt, held_fits _ (invariant_of-self c)))

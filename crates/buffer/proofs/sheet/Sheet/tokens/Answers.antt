@@ -1,7 +1,5 @@
-use Rattle.std.proofs.Common.{rules}
-use Rattle.buffer.specs.Contents.{content_of}
+use Rattle.buffer.proofs.Held.{held-sound}
 use Rattle.buffer.proofs.sheet.Sheet.tokens.Goals as goal
 
-pub returns : goal.returns
-unfolding content_of
-returns c = search rules
+pub returns-clause-sound : goal.returns-clause-sound
+returns-clause-sound c = rw (← c.self.view_is) (held-sound c.self.inside c.self.invariant)

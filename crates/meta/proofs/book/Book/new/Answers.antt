@@ -6,15 +6,15 @@ pub invariant_of-result : goal.invariant_of-result
 invariant_of-result c =
     let nodes = c.in_ok-nodes.ensures.items in
     let us = c.in_ok-unplaced.ensures.items in
-    let sound = new-keeps c.args.places _ _ _ nodes c.in_ok-store.ensures in
     record {
-      sizes = search rules;
-      reserved = search rules;
+      few = search rules;
+      shared = search rules;
+      room = search rules;
+      kids_room = search rules;
+      unplaced_room = search rules;
       runs = spanned-none _ nodes;
       stack = unplaced-none _ us nodes;
-      standing = sound.standing;
-      single = sound.single;
-      noted = sound.noted;
+      sound = new-keeps c.args.places _ _ _ nodes c.in_ok-store.ensures;
     }
 
 pub returns : goal.returns

@@ -1,0 +1,9 @@
+use Rattle.std.proofs.Common.{drop, vec_items}
+use Rattle.rules.specs.Notes.{notes_of}
+use Rattle.buffer.specs.Marks.{marks_in}
+use Rattle.buffer.proofs.Cutting.{Cutting}
+use Rattle.buffer.proofs.store.cut.Given as goal
+
+abbrev pub invariant-loop-bytes : goal.invariant-loop-bytes
+invariant-loop-bytes l =
+    Cutting (vec_items l.notes) (vec_items l.tokens) l.size l.rest (marks_in (drop l.bytes-index l.marks)) (notes_of l.fn.marks l.fn.text)

@@ -1,0 +1,8 @@
+-- What callers see of a bench.
+use Rattle.std.specs.Prelude.{ℕ, List}
+use Rattle.normal.specs.declared.bench.Normal.{Normal}
+
+-- the nodes that stand on it, and the places that it was made for
+pub record Holding : Type 0 where
+  pub nodes : List Normal
+  pub places : ℕ
