@@ -1,5 +1,6 @@
 // Printing the usage line of the book in a folder.
-ghost use Rattle.std.specs.Prelude.{◌≡◌, OnOk, OnErr};
+ghost use Rattle.std.specs.Prelude.{◌≡◌, OnOk, OnErr, IfErr, option_copied};
+ghost use Rattle.show.specs.Files.{path_of, Names, NamesFile};
 ghost use Rattle.std.specs.Process.{exit_status};
 
 use crate::error::ShowError;
@@ -10,7 +11,9 @@ use std::rt::Files;
 use std::{fs, io};
 
 // Prints the usage line of the book in a folder, or in the current one, or why it is refused.
-pub fn show<R: Files + Print + AllocGlobal>(rt: &R, folder: Option<&str>) -> Result<(), ShowError> {
+pub fn show<R: Files + Print + AllocGlobal>(rt: &R, folder: Option<&str>) -> Result<(), ShowError>
+    ensures { IfErr result (NamesFile (option_copied folder.entry)) }
+{
     let book = read(rt, folder, "book")?;
     let marks = read(rt, folder, "marks")?;
     let text = read(rt, folder, "bytes")?;
@@ -28,7 +31,9 @@ fn read<R: Files + AllocGlobal>(
     rt: &R,
     folder: Option<&str>,
     name: &str,
-) -> Result<Vec<u8>, ShowError> {
+) -> Result<Vec<u8>, ShowError>
+    ensures { IfErr result (Names (path_of (option_copied folder.entry) name.now)) }
+{
     let path = match folder {
         Some(folder) => format!(in rt.alloc(); "{folder}/{name}")?,
         None => format!(in rt.alloc(); "{name}")?,
