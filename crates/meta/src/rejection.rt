@@ -117,15 +117,22 @@ impl Rejection {
     pub const NONE: u16 = 65535;
 
     // A rejection about a record, with no command around it.
-    pub fn new(fault: Fault, record: usize) -> Rejection
-        ensures { rejection_of result ≡ reject (fault_number fault) (layer_letter (layer_of fault)) «record» }
+    pub fn new(fault: Fault, layer: Layer, record: usize) -> Rejection
+        ensures { rejection_of result ≡ reject (fault_number fault) (layer_letter layer) «record» }
     {
         Rejection {
             fault,
-            layer: fault.layer(),
+            layer,
             record: shown_number(record),
             within: Rejection::NONE,
         }
+    }
+
+    // The same, by the layer that finds the fault.
+    pub fn of(fault: Fault, record: usize) -> Rejection
+        ensures { rejection_of result ≡ reject (fault_number fault) (layer_letter (layer_of fault)) «record» }
+    {
+        Rejection::new(fault, fault.layer(), record)
     }
 }
 

@@ -31,10 +31,10 @@ pub fn normalise(
     ensures sound { Sound book.now }
 {
     if root >= book.len() {
-        return Err(Rejection::new(Fault::NoNode, root));
+        return Err(Rejection::of(Fault::NoNode, root));
     }
     if bench.places() < 3 * book.len() + 2 {
-        return Err(Rejection::new(Fault::Bench, root));
+        return Err(Rejection::of(Fault::Bench, root));
     }
     // A book has at most 256 nodes, so the root's number fits.
     Walk { book, for_usage }.root(root as u16, bench);

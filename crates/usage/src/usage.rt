@@ -44,5 +44,5 @@ fn refuse(root: usize, sheet: &mut Sheet) -> Rejection
     ensures same { sheet.new.limits ≡ sheet.old.limits }
 {
     sheet.clear();
-    Rejection::new(Fault::Long, root)
+    Rejection::of(Fault::Long, root)
 }

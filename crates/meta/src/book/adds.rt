@@ -15,7 +15,8 @@ use std::alloc::{AllocError, Global};
 impl Book {
     // Takes all the memory that the book will ever use. Marks and text come apart, as callers have them.
     pub fn new(heap: Global, places: usize, marks: &[u8], text: &[u8]) -> Result<Book, AllocError>
-        ensures { IfOk result (λ b. b ≡ blank places marks.now text.now) }
+        ensures value { IfOk result (λ b. b ≡ blank places marks.now text.now) }
+        ensures sound { IfOk result (λ b. Sound b) }
     {
         let used = places.min(Book::MOST);
         let store = Store::open(heap, marks, text)?;
@@ -40,7 +41,7 @@ impl Book {
     {
         let number = self.nodes.len();
         self.try_add(record)
-            .map_err(|fault| Rejection::new(fault, number))
+            .map_err(|fault| Rejection::of(fault, number))
     }
 
     // The same, with the fault alone.

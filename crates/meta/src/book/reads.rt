@@ -25,15 +25,17 @@ impl Book {
     }
 
     pub fn record(&self, number: usize) -> Option<&[u8; RECORD_SIZE]>
-        ensures { option_map (λ x. x.now) result
+        ensures value { option_map (λ x. x.now) result
             ≡ option_map (λ n. n.«record») (slice_get self.now.nodes number) }
+        ensures sound { Sound self.now }
     {
         Some(self.own_record(number)?.bytes())
     }
 
     pub fn children(&self, number: usize) -> Option<&[u16]>
-        ensures { option_map (λ x. x.now) result
+        ensures value { option_map (λ x. x.now) result
             ≡ option_map (λ n. n.children) (slice_get self.now.nodes number) }
+        ensures sound { Sound self.now }
     {
         let node = self.nodes.get(number)?;
         let first = usize::from(node.first);
@@ -44,7 +46,8 @@ impl Book {
 
     // The notes that its records name.
     pub fn store(&self) -> &Store
-        ensures { result.now ≡ self.now.notes }
+        ensures value { result.now ≡ self.now.notes }
+        ensures sound { Sound self.now }
     {
         &self.store
     }

@@ -90,7 +90,7 @@ write_meta-returns-in-CustomUsage t c =
     λ u h.
     let o = opened _ u c.split_last.ensures.cases c.unwrap.ensures c.in-CustomUsage.is h in
     wrote_tree c.args.sheet.now c.doc.new.self u _ c.doc.result o.shape
-    (wrote_as c.args.sheet.now _ _ _ _ (doc_as c.args.book.now.notes c.store.result.now c.in-CustomUsage.note c.from.result (sym c.store.ensures) (sym c.from.ensures)) c.doc.ensures)
+    (wrote_as c.args.sheet.now _ _ _ _ (doc_as c.args.book.now.notes c.store.result.now c.in-CustomUsage.note c.from.result (sym c.store.ensures.value) (sym c.from.ensures)) c.doc.ensures)
 
 pub write_meta-returns-in-And : goal.write_meta-returns-in-And
 write_meta-returns-in-And t c =

@@ -5,8 +5,8 @@ use Rattle.meta.specs.Shape.{node_of}
 use Rattle.meta.proofs.Stands.{node_there, node_absent, node_span}
 use Rattle.meta.proofs.book.Book.children.Goals as goal
 
-pub returns-in_err-node : goal.returns-in_err-node
-returns-in_err-node c =
+pub returns-in_err-node-clause-value : goal.returns-in_err-node-clause-value
+returns-in_err-node-clause-value c =
     ap (option_map (λ x. x.now)) c.from_residual.ensures
     ∙ sym (ap (option_map (λ (n : Node). n.children)) (node_absent c.self.inside c.self.view_is c.args.number _ c.deref.ensures.value c.in_err-node.ensures.lookup.0))
 
@@ -25,9 +25,9 @@ slice_bounds-result-end c =
     let span = node_span c.self.inside c.self.view_is c.args.number _ c.deref.ensures.value c.self.invariant c.in_ok-node.node.now c.in_ok-node.ensures.lookup.0 c.in_ok-node.ensures.lookup.1 in
     search rules
 
-pub returns : goal.returns
+pub returns-clause-value : goal.returns-clause-value
 unfolding node_of
-returns c =
+returns-clause-value c =
     let node = c.in_ok-node.node.now in
     let first : ℕ = c.from-first.result in
     let long : first + c.from.result - first ≡ node.count = omega (arith, c.from.ensures) in

@@ -17,5 +17,8 @@ invariant_of-result c =
       sound = new-keeps c.args.places _ _ _ nodes c.in_ok-store.ensures;
     }
 
-pub returns : goal.returns
-returns c = new_is _ _ _ _ c.in_ok-nodes.ensures.items c.in_ok-store.ensures
+pub returns-clause-value : goal.returns-clause-value
+returns-clause-value c = new_is _ _ _ _ c.in_ok-nodes.ensures.items c.in_ok-store.ensures
+
+pub returns-clause-sound : goal.returns-clause-sound
+returns-clause-sound c = new-keeps _ _ _ _ c.in_ok-nodes.ensures.items c.in_ok-store.ensures
