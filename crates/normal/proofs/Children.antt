@@ -64,7 +64,7 @@ row_more : (xs ys : List Entry) (k : Bool) (t : Meta) (ts : Metas) → ys ≡ xs
 row_more xs ys true t ts e = ap (λ (zs : List Entry). zs ++ posts ts) (e ∙ ap (λ (zs : List Entry). xs ++ zs) (append-nil (post t))) ∙ append_assoc xs (post t) (posts ts)
 row_more xs ys false t ts e = ap (λ (zs : List Entry). zs ++ posts ts) (e ∙ append-nil xs)
 
-abbrev one : Bool → ℕ
+abbrev pub one : Bool → ℕ
 one true = 1
 one false = 0
 

@@ -19,10 +19,11 @@ tree_held p b at = tree_in (take (suc at) (held p b))
 abbrev pub Room : Holding → (more : ℕ) → Type 0
 Room b more = length b.nodes + more ≤ min b.places most
 
--- a bench grows by so many nodes at most, and keeps its places
+-- a bench grows by so many nodes at most, and keeps its places and its memory
 pub record Grows (old new : Holding) (more : ℕ) : Type 0 where
   pub within : length new.nodes ≤ length old.nodes + more
   pub places : new.places ≡ old.places
+  pub capacity : new.capacity ≡ old.capacity
 
 -- what stands from a place on is gone
 abbrev pub IsCut : Plain → (old new : Holding) → (start : ℕ) → Type 0

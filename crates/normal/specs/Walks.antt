@@ -10,9 +10,10 @@ use Rattle.normal.specs.Bench.{post}
 use Rattle.normal.specs.Held.{held}
 
 -- the normal form of a tree stands behind what stood there, in fewer than three nodes for each of
--- the tree's, and the walk is back with its mark
+-- the tree's, the walk is back with its mark, and the bench keeps its places and its memory
 pub record Walks (p : Plain) (old new : Holding) (t : Meta) (usage : Bool) (entry back : StrictNorm) : Type 0 where
   pub nodes : held p new ≡ held p old ++ post (nf t usage entry).tree
   pub mark : back ≡ (nf t usage entry).mark
   pub within : length new.nodes + 1 ≤ length old.nodes + 3 * weight t
   pub places : new.places ≡ old.places
+  pub capacity : new.capacity ≡ old.capacity

@@ -68,7 +68,11 @@ impl Model for Bench {
 
     ghost Value = { Holding };
 
-    ghost view = { λ b. record { nodes = b.nodes.items; places = b.places } };
+    ghost view = { λ b. record {
+      nodes = b.nodes.items;
+      places = b.places;
+      capacity = vec_capacity b.nodes;
+    } };
 
     ghost invariant = { λ b. min b.places most ≤ vec_capacity b.nodes };
 }
@@ -110,6 +114,7 @@ impl Bench {
     pub(crate) fn clear(&mut self)
         ensures none { self.new.nodes ≡ [] }
         ensures same { self.new.places ≡ self.old.places }
+        ensures memory { self.new.capacity ≡ self.old.capacity }
     {
         self.nodes.clear();
     }

@@ -28,6 +28,7 @@ pub fn normalise(
     ensures tree { IfOk result (λ at. tree_held book.now bench.new at
         ≡ normal for_usage (tree_at book.now root)) }
     ensures same { bench.new.places ≡ bench.old.places }
+    ensures memory { bench.new.capacity ≡ bench.old.capacity }
     ensures sound { Sound book.now }
 {
     if root >= book.len() {

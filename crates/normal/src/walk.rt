@@ -32,6 +32,7 @@ impl<'a> Walk<'a> {
         ensures nodes { held self.now.book.now bench.new
             ≡ normal_entries self.now.book.now root self.now.for_usage }
         ensures same { bench.new.places ≡ bench.old.places }
+        ensures memory { bench.new.capacity ≡ bench.old.capacity }
     {
         bench.clear();
         let back = self.node(root, StrictNorm::Pull, bench);

@@ -52,7 +52,7 @@ row-loop-child-preserved t c =
     ap (λ (us : Metas). rest row us usage entry run seen) b ∙ rest-more row t' ts usage entry run seen back m
     ∙ ap₂ (λ (s : StrictNorm) (o : Bool). in_front (keeps row seen (kind_of_tree u)) u (rest row ts usage entry s (seen || o))) (sym c.next-run.ensures) (sym command) in
     let grown : Grows c.wrap.new.self c.if-keeps.bench 0 = elim c.if-keeps.branch [
-      | row-then-keeps v ↦ record { within = (let n = ap (λ (h : Holding). length h.nodes) v.bench-is in omega arith); places = ap (λ (h : Holding). h.places) v.bench-is }
+      | row-then-keeps v ↦ record { within = (let n = ap (λ (h : Holding). length h.nodes) v.bench-is in omega arith); places = ap (λ (h : Holding). h.places) v.bench-is; capacity = ap (λ (h : Holding). h.capacity) v.bench-is }
       | row-else-keeps v ↦ subst (λ (h : Holding). Grows c.wrap.new.self h 0) (sym v.bench-is) v.cut.ensures.room
     ] in
     let few : c.if-keeps.kept ≤ c.loop-child.kept + 1 = elim c.if-keeps.branch [ row-then-keeps v ↦ omega (arith, v.kept-is) | row-else-keeps v ↦ omega (arith, v.kept-is) ] in
@@ -63,6 +63,7 @@ row-loop-child-preserved t c =
       ];
       few = omega (arith, few, c.loop-child.invariant.few);
       places = grown.places ∙ c.wrap.ensures.room.places ∙ c.node-back.ensures.places ∙ c.loop-child.invariant.places;
+      capacity = grown.capacity ∙ c.wrap.ensures.room.capacity ∙ c.node-back.ensures.capacity ∙ c.loop-child.invariant.capacity;
       within = omega (arith, w, c.loop-child.invariant.within, c.node-back.ensures.within, c.wrap.ensures.room.within, grown.within);
     }
 
@@ -86,4 +87,5 @@ row-returns t c =
       mark = c.ends.ensures ∙ all.2 ∙ ap (λ (d : Done). d.mark) (sym n);
       within = omega (arith, w, weight_row row ts, c.loop-child.invariant.within, c.close.ensures.room.within);
       places = c.close.ensures.room.places ∙ c.loop-child.invariant.places;
+      capacity = c.close.ensures.room.capacity ∙ c.loop-child.invariant.capacity;
     }

@@ -19,5 +19,6 @@ invariant-row-loop-child l =
       row : Reached p l.initial.bench l.bench l.kept (rest l.row all l.self.for_usage l.mark l.mark false) (rest l.row ts l.self.for_usage l.mark l.run l.seen);
       few : l.kept ≤ l.child-index;
       places : l.bench.places ≡ l.initial.bench.places;
+      capacity : l.bench.capacity ≡ l.initial.bench.capacity;
       within : length l.bench.nodes + 3 * weights ts ≤ length l.initial.bench.nodes + 3 * weights all;
     }
