@@ -40,6 +40,11 @@ abbrev pub closed : Row → Metas → Meta
 closed R.And ts = and_of ts
 closed R.Or ts = or_of ts
 
+-- how many nodes the close of a row puts on a bench at most: an Or stands below a Required
+abbrev pub most_closed : Row → ℕ
+most_closed R.And = 1
+most_closed R.Or = 2
+
 -- what is left of a row behind a running mark, where a Command may have been seen:
 -- the children that stay, and the mark that the row comes back with
 abbrev pub rest : Row → Metas → (usage : Bool) → (entry run : StrictNorm) → (seen : Bool) → N.Row

@@ -28,6 +28,7 @@ pub fn usage(
         ≡ left_by result sheet.old.content (line (reading_of book.now root)) }
     ensures law { OnOk result (Lossless book.now root sheet.new.content) }
     ensures same { (sheet.new.limits ≡ sheet.old.limits) × (bench.new.places ≡ bench.old.places) }
+    ensures memory { bench.new.capacity ≡ bench.old.capacity }
 {
     normalise(book, root, true, bench)?;
     // By a match: with `map_err` the closure holds the sheet, and the check does not prove what it leaves there.

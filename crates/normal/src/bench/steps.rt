@@ -4,7 +4,7 @@ ghost use Rattle.rules.specs.Plain.{Plain};
 ghost use Rattle.rules.specs.NormalForm.{many_of, required_of, optional_of, custom_of, wrapped, bare as bare_of};
 ghost use Rattle.meta.specs.Items.{note_numbered};
 ghost use Rattle.normal.specs.Held.{Room, Grows, IsTurned, IsClosed};
-ghost use Rattle.normal.specs.Rows.{closed};
+ghost use Rattle.normal.specs.Rows.{closed, most_closed};
 
 use crate::bench::{Bench, Form};
 use crate::row::Row;
@@ -84,9 +84,9 @@ impl Bench {
 
     // Closes a row with `kept` children, which stand from `start` on.
     pub(crate) fn close(&mut self, row: Row, start: usize, kept: u16)
-        requires { Room self.old 2 }
+        requires { Room self.old (most_closed row) }
         ensures tree { (p : Plain) → IsClosed p self.old self.new start kept (closed row) }
-        ensures room { Grows self.old self.new 2 }
+        ensures room { Grows self.old self.new (most_closed row) }
     {
         match (kept, row) {
             (0, _) => self.leaf(Form::Skip),

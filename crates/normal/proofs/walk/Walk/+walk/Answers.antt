@@ -12,7 +12,7 @@ use Rattle.normal.specs.Held.{held, Grows}
 use Rattle.normal.specs.Rows.{row_at, starts, ends, keeps, rest}
 use Rattle.normal.proofs.Tops.{length-entries}
 use Rattle.normal.proofs.Children.{in_front, rest-more, rest-none, nf_row, reached_kept, reached_cut, reached_end}
-use Rattle.normal.proofs.Weights.{long_row, weight_row}
+use Rattle.normal.proofs.Weights.{long_row, weight_row, two_closed}
 use Rattle.normal.proofs.walk.Walk.+walk.Goals as goal
 use Rattle.normal.proofs.walk.Walk.+walk.Goals.{row-then-keeps, row-else-keeps}
 
@@ -85,7 +85,7 @@ row-returns t c =
     record {
       nodes = c.close.ensures.tree p bs (rest row ts usage entry entry false).kept all.0 l all.1 ∙ ap (λ (d : Done). bs ++ post d.tree) (sym n);
       mark = c.ends.ensures ∙ all.2 ∙ ap (λ (d : Done). d.mark) (sym n);
-      within = omega (arith, w, weight_row row ts, c.loop-child.invariant.within, c.close.ensures.room.within);
+      within = omega (arith, w, weight_row row ts, two_closed row, c.loop-child.invariant.within, c.close.ensures.room.within);
       places = c.close.ensures.room.places ∙ c.loop-child.invariant.places;
       capacity = c.close.ensures.room.capacity ∙ c.loop-child.invariant.capacity;
     }
