@@ -28,7 +28,7 @@ impl From<io::Error> for ShowError {
     ghost from_gives = { λ reason e. e ≡ Io reason };
 
     fn from(reason: io::Error) -> ShowError {
-        ShowError::Io(reason)
+        Self::Io(reason)
     }
 }
 
@@ -36,6 +36,6 @@ impl From<AllocError> for ShowError {
     ghost from_gives = { λ reason e. e ≡ Memory reason };
 
     fn from(reason: AllocError) -> ShowError {
-        ShowError::Memory(reason)
+        Self::Memory(reason)
     }
 }

@@ -8,7 +8,10 @@ use jobs::line::printed_line;
 use std::io::Write;
 use std::process::ExitCode;
 use std::rt::Files;
-use std::{fs, io};
+use std::{fmt, fs, io};
+
+// The most bytes that are said of an error: of a longer text the end is cut off, for which `...` stands.
+const MOST_SAID: usize = 120;
 
 // Prints the usage line of the book in a folder, or in the current one, or why it is refused.
 pub fn show<R: Files + Print + AllocGlobal>(rt: &R, folder: Option<&str>) -> Result<(), ShowError>
@@ -49,8 +52,10 @@ pub fn ended(rt: &impl Eprint, program: &str, outcome: Result<(), ShowError>) ->
     match outcome {
         Ok(()) => ExitCode::SUCCESS,
         Err(error) => {
+            let said = fmt::InlineText::<MOST_SAID>::of(error);
+            let said = said.as_str();
             // Where standard error cannot be written there is no other place to say it.
-            let _ = eprintln!(rt; "{program}: {error}");
+            let _ = eprintln!(rt; "{program}: {said}");
             ExitCode::FAILURE
         }
     }
