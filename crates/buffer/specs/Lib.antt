@@ -3,3 +3,5 @@ pub mod Walks
 pub mod Lengths
 pub mod Contents
 pub mod Sheets
+pub mod Places
+pub mod Stores

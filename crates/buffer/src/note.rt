@@ -1,4 +1,4 @@
-// A note of a store, which is whole.
+// A note that its store lends, which is whole.
 ghost use Rattle.std.specs.Prelude.{◌≡◌, true, length, ◌==◌};
 ghost use Rattle.rules.specs.Sound.{whole};
 
@@ -6,36 +6,36 @@ use std::marker::Model;
 use terms::text::Token;
 
 #[derive(Drop)]
-pub struct Note {
-    pub(crate) tokens: Vec<Token>,
-    pub(crate) text: Vec<u8>,
+pub struct Note<'a> {
+    pub(crate) tokens: &'a [Token],
+    pub(crate) text: &'a [u8],
 }
 
-impl Model for Note {
+impl<'a> Model for Note<'a> {
     ghost use Rattle.std.specs.Prelude.{◌≡◌, true};
     ghost use Rattle.rules.specs.Notes as N;
     ghost use Rattle.rules.specs.Sound.{whole};
 
     ghost Value = { N.Note };
 
-    ghost view = { λ n. record { tokens = n.tokens.items; bytes = n.text.items } };
+    ghost view = { λ n. record { tokens = n.tokens.now; bytes = n.text.now } };
 
-    ghost invariant = { λ n. whole (record { tokens = n.tokens.items; bytes = n.text.items }) ≡ true };
+    ghost invariant = { λ n. whole (record { tokens = n.tokens.now; bytes = n.text.now }) ≡ true };
 }
 
-impl Note {
-    pub fn tokens(&self) -> &[Token]
+impl<'a> Note<'a> {
+    pub fn tokens(&self) -> &'a [Token]
         ensures value { result.now ≡ self.now.tokens }
         ensures whole { whole self.now ≡ true }
     {
-        self.tokens.as_slice()
+        self.tokens
     }
 
-    pub fn text(&self) -> &[u8]
+    pub fn text(&self) -> &'a [u8]
         ensures value { result.now ≡ self.now.bytes }
         ensures whole { whole self.now ≡ true }
     {
-        self.text.as_slice()
+        self.text
     }
 
     // Whether it has no marks.

@@ -6,4 +6,4 @@ use Rattle.buffer.proofs.store.cut.Given as goal
 
 abbrev pub invariant-loop-bytes : goal.invariant-loop-bytes
 invariant-loop-bytes l =
-    Cutting (vec_items l.notes) (vec_items l.tokens) l.size l.rest (marks_in (drop l.bytes-index l.marks)) (notes_of l.fn.marks l.fn.text)
+    Cutting l.text (vec_items l.tokens) (vec_items l.places) l.first l.start l.end l.bytes-index (marks_in (drop l.bytes-index l.marks)) (notes_of l.fn.marks l.fn.text)
