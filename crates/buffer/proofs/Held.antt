@@ -1,10 +1,12 @@
--- What the fields of a sheet keep, of what stands there.
-use Rattle.std.proofs.Common.{◌≡◌, ◌≤◌, min, true, length, arith}
+-- What the fields of a sheet keep, of what stands there, and that a write is refused just where it does not fit.
+use Rattle.std.proofs.Common.{◌≡◌, ◌≤◌, min, true, List, length, is_ok, Ok, Err, Result, sym, ap, ◌∙◌, arith}
 use Rattle.std.proofs.lemmas.Bool.{le-leb, and_from}
-use Rattle.rules.specs.Content.{fits}
+use Rattle.rules.specs.Content.{Content, Limits, Op, applies, fits}
+use Rattle.buffer.specs.declared.sheet.Full.{Full}
 use Rattle.buffer.specs.declared.sheet.Sheet.TheInside.{Inside}
-use Rattle.buffer.specs.Contents.{IsSound}
+use Rattle.buffer.specs.Contents.{SheetState, IsSound, Wrote}
 use Rattle.buffer.specs.Sheets.{state_of, IsHeld}
+use Rattle.buffer.proofs.Writing.{over-fits}
 
 pub held_fits : (s : Inside) → IsHeld s → fits (state_of s).limits (state_of s).content ≡ true
 held_fits s h =
@@ -19,3 +21,9 @@ held-sound s h = record {
   limited = h.limited;
   small = h.small;
 }
+
+-- a write is refused just where it does not fit
+pub wrote_fits : (s : SheetState) (ops : List Op) (t : SheetState) (r : Result (Unit {0}) Full) → Wrote s ops t r → IsSound t → is_ok r ≡ fits s.limits (applies s.content ops)
+wrote_fits s ops t (Ok u) h k =
+    sym k.within ∙ ap (λ (l : Limits). fits l t.content) h.0 ∙ ap (λ (c : Content). fits s.limits c) h.1
+wrote_fits s ops t (Err e) h k = sym (over-fits s.limits (applies s.content ops) h.1)

@@ -1,11 +1,9 @@
 -- The laws of writes, one behind the other: what they make of a content, and that what does not fit never fits with more behind it.
 use Rattle.std.proofs.Common.{◌≡◌, ℕ, ◌+◌, ◌<◌, ◌≤◌, min, false, leb, ◌⊎◌, List, [], ◌∷◌, ◌++◌, length, refl, inl, inr, ⊎_elim, append_assoc, arith, length-append}
-use Rattle.std.proofs.lemmas.List.{append-nil}
 use Rattle.std.proofs.lemmas.Bool.{leb-false, lt-leb, and_left, and_right, and_cases}
 use Rattle.terms.specs.declared.text.Style.{Style}
 use Rattle.terms.specs.declared.text.Token.{Token}
 use Rattle.rules.specs.Notes.{Note}
-use Rattle.rules.specs.Tree.{no_note}
 use Rattle.rules.specs.Content.{Content, Limits, Op, tok, str, raw, extend, apply, applies, fits}
 use Rattle.buffer.specs.Contents.{Over}
 use Rattle.buffer.proofs.Growth.{extend_more, extend_joins}
@@ -94,11 +92,6 @@ raw_over_tokens l c n h = over_tokens l (apply c (raw n)) (simp length-append (o
 pub raw_over_bytes : (l : Limits) (c : Content) (n : Note) → l.bytes < length c.bytes + length n.bytes → Over l (apply c (raw n))
 unfolding apply
 raw_over_bytes l c n h = over_bytes l (apply c (raw n)) (simp length-append (omega arith))
-
--- a note with nothing in it leaves what stands there
-pub raw_nothing : (c : Content) → c ≡ apply c (raw no_note)
-unfolding apply
-raw_nothing c = simp append-nil
 
 -- what a writer that is made of others answers by: `search (rules, writes)`
 pub ruleset writes = (applies-++, over-apply, over-applies, apply_joins, over_first, over_second, over_inner)

@@ -3,7 +3,7 @@ ghost use Rattle.std.specs.Prelude.{◌≡◌, [], ◌∷◌, ◌++◌, codes};
 ghost use Rattle.std.specs.List.{list_all};
 ghost use Rattle.terms.specs.declared.text.Style.TheVariants as S;
 ghost use Rattle.rules.specs.Content as C;
-ghost use Rattle.buffer.specs.Contents.{Wrote};
+ghost use Rattle.buffer.specs.Contents.{IsSound, Wrote};
 
 use crate::sheet::{Full, Sheet};
 use terms::text::Style;
@@ -11,7 +11,8 @@ use terms::text::Style;
 impl Sheet {
     // A metavar of capitals, digits, - and _ stands as it is, any other between < and >.
     pub fn metavar(&mut self, m: &[u8]) -> Result<(), Full>
-        ensures { Wrote self.old (C.metavar m.now) self.new result }
+        ensures wrote { Wrote self.old (C.metavar m.now) self.new result }
+        ensures sound { IsSound self.new }
     {
         if is_bare(m) {
             self.write_str(m, Style::Metavar)
@@ -21,7 +22,8 @@ impl Sheet {
     }
 
     fn enclosed(&mut self, m: &[u8]) -> Result<(), Full>
-        ensures { Wrote self.old (C.str S.Metavar (codes "<" ++ (m.now ++ codes ">")) ∷ []) self.new result }
+        ensures wrote { Wrote self.old (C.str S.Metavar (codes "<" ++ (m.now ++ codes ">")) ∷ []) self.new result }
+        ensures sound { IsSound self.new }
     {
         self.write_str(b"<", Style::Metavar)?;
         self.write_str(m, Style::Metavar)?;

@@ -1,12 +1,11 @@
 // What makes, empties and reads a sheet, and the writes that all others are made of.
-ghost use Rattle.std.specs.Prelude.{◌≡◌, ◌+◌, ◌^◌, ◌<◌, ◌≤◌, [], ◌∷◌, IfOk, vec_len, vec_capacity};
+ghost use Rattle.std.specs.Prelude.{◌≡◌, ◌+◌, ◌^◌, ◌<◌, ◌≤◌, [], ◌∷◌, length, IfOk, vec_len, vec_capacity};
 ghost use Rattle.terms.specs.Token.{sizes};
 ghost use Rattle.terms.specs.declared.text.Token.TheVariants.{BlockStart, BlockEnd};
 ghost use Rattle.rules.specs.Content.{blank, tok, str, raw};
 ghost use Rattle.buffer.specs.Lengths.{end_len, Lengthened};
 ghost use Rattle.buffer.specs.Contents.{IsSound, Put, lowered};
 
-use crate::note::Note;
 use crate::sheet::{Full, MOST_BYTES, MOST_TOKENS, Sheet};
 use std::alloc::{AllocError, Global};
 use terms::text::{Block, Style, Token};
@@ -16,6 +15,7 @@ impl Sheet {
     pub fn new(heap: Global, tokens: usize, bytes: usize) -> Result<Sheet, AllocError>
         ensures made { IfOk result (λ s. (s.content ≡ blank)
             × (s.limits ≡ lowered (record { tokens = tokens; bytes = bytes }))) }
+        ensures sound { IfOk result (λ s. IsSound s) }
     {
         let max_tokens = tokens.min(MOST_TOKENS);
         let max_bytes = bytes.min(MOST_BYTES);
@@ -32,6 +32,7 @@ impl Sheet {
     pub fn clear(&mut self)
         ensures after { self.new.content ≡ blank }
         ensures same { self.new.limits ≡ self.old.limits }
+        ensures sound { IsSound self.new }
     {
         self.tokens.clear();
         self.bytes.clear();
@@ -53,13 +54,15 @@ impl Sheet {
 
     // A start and an end are one write, under the two names that their callers mean.
     pub fn block_start(&mut self, b: Block) -> Result<(), Full>
-        ensures { Put self.old (tok (BlockStart b)) self.new result }
+        ensures put { Put self.old (tok (BlockStart b)) self.new result }
+        ensures sound { IsSound self.new }
     {
         self.push(Token::BlockStart(b))
     }
 
     pub fn block_end(&mut self, b: Block) -> Result<(), Full>
-        ensures { Put self.old (tok (BlockEnd b)) self.new result }
+        ensures put { Put self.old (tok (BlockEnd b)) self.new result }
+        ensures sound { IsSound self.new }
     {
         self.push(Token::BlockEnd(b))
     }
@@ -67,7 +70,8 @@ impl Sheet {
     // Writes a token that has no bytes. `lengthen` ends likewise, and has only the tokens.
     fn push(&mut self, edge: Token) -> Result<(), Full>
         requires { sizes (edge ∷ []) ≡ 0 }
-        ensures { Put self.old (tok edge) self.new result }
+        ensures put { Put self.old (tok edge) self.new result }
+        ensures sound { IsSound self.new }
     {
         if self.tokens.len() == self.max_tokens {
             return Err(Full);
@@ -77,7 +81,8 @@ impl Sheet {
     }
 
     pub fn write_str(&mut self, s: &[u8], style: Style) -> Result<(), Full>
-        ensures { Put self.old (str style s.now) self.new result }
+        ensures put { Put self.old (str style s.now) self.new result }
+        ensures sound { IsSound self.new }
     {
         if s.len() > self.max_bytes - self.bytes.len() {
             return Err(Full);
@@ -90,21 +95,21 @@ impl Sheet {
         Ok(())
     }
 
-    // Writes a note as it is.
-    pub(crate) fn raw(&mut self, note: &Note) -> Result<(), Full>
-        ensures { Put self.old (raw note.now) self.new result }
+    // Writes tokens and bytes as they are.
+    pub(crate) fn raw(&mut self, tokens: &[Token], bytes: &[u8]) -> Result<(), Full>
+        requires { sizes tokens.now ≡ length bytes.now }
+        ensures put { Put self.old (raw (record { tokens = tokens.now; bytes = bytes.now })) self.new result }
+        ensures sound { IsSound self.new }
     {
-        let tokens = note.tokens.as_slice();
-        let text = note.text.as_slice();
         if tokens.len() > self.max_tokens - self.tokens.len() {
             return Err(Full);
         }
-        if text.len() > self.max_bytes - self.bytes.len() {
+        if bytes.len() > self.max_bytes - self.bytes.len() {
             return Err(Full);
         }
         // There is memory for both since new, so neither fails.
         let _ = self.tokens.extend_from_slice(tokens);
-        let _ = self.bytes.extend_from_slice(text);
+        let _ = self.bytes.extend_from_slice(bytes);
         Ok(())
     }
 }
