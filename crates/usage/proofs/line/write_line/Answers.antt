@@ -25,4 +25,4 @@ returns-clause-line c =
     anew_then c.args.sheet.now c.begin.new.sheet c.block_end.new.self (tok (BlockStart B.Mono) ∷ []) (spell (reading u) ++ tok (BlockEnd B.Mono) ∷ []) c.block_end.result
     c.in_ok-begin.ensures
     (wrote_then c.begin.new.sheet c.write_meta.new.sheet c.block_end.new.self (spell (reading u)) (tok (BlockEnd B.Mono) ∷ []) c.block_end.result (c.in_ok-write_meta.ensures u h)
-    (wrote_one _ _ (tok (BlockEnd B.Mono)) _ c.block_end.ensures))
+    (wrote_one _ _ (tok (BlockEnd B.Mono)) _ c.block_end.ensures.put))

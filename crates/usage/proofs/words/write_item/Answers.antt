@@ -17,4 +17,4 @@ returns-in_err-write_str-in-Argument c = search (rules, writes)
 pub returns-in-Command : goal.returns-in-Command
 returns-in-Command c =
     subst (λ (i : Item). Wrote c.args.sheet.now (element_ops (item_reading (item_of c.args.book.now i))) c.write_str.new.self c.write_str.result)
-    (sym c.in-Command.is) (wrote_one _ _ _ _ c.write_str.ensures)
+    (sym c.in-Command.is) (wrote_one _ _ _ _ c.write_str.ensures.put)

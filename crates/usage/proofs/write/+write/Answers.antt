@@ -20,22 +20,22 @@ pub write_enclosed-returns-in_err-write_str : goal.write_enclosed-returns-in_err
 write_enclosed-returns-in_err-write_str t c =
     λ u h.
     wrote_stop c.args.sheet.now c.write_str.new.self (open_ops c.args.bracket) (spell (reading u) ++ close_ops c.args.bracket) c.from_residual.result c.from_residual.ensures.0
-    (wrote_sign c.args.sheet.now c.write_str.new.self (open_ops c.args.bracket) c.open.result.now (Err _) c.open.ensures c.in_err-write_str.ensures)
+    (wrote_sign c.args.sheet.now c.write_str.new.self (open_ops c.args.bracket) c.open.result.now (Err _) c.open.ensures c.in_err-write_str.ensures.put)
 
 pub write_enclosed-returns-in_err-write_meta : goal.write_enclosed-returns-in_err-write_meta
 write_enclosed-returns-in_err-write_meta t c =
     λ u h.
     stopped_second c.args.sheet.now c.write_str.new.self c.write_meta.new.sheet (open_ops c.args.bracket) (spell (reading u)) (close_ops c.args.bracket) c.from_residual-in_err-write_meta.result c.from_residual-in_err-write_meta.ensures.0
-    (wrote_sign c.args.sheet.now c.write_str.new.self (open_ops c.args.bracket) c.open.result.now (Ok tt) c.open.ensures c.in_ok-write_str.ensures)
+    (wrote_sign c.args.sheet.now c.write_str.new.self (open_ops c.args.bracket) c.open.result.now (Ok tt) c.open.ensures c.in_ok-write_str.ensures.put)
     (c.in_err-write_meta.ensures u h)
 
 pub write_enclosed-returns : goal.write_enclosed-returns
 write_enclosed-returns t c =
     λ u h.
     wrote_three c.args.sheet.now c.write_str.new.self c.write_meta.new.sheet c.write_str-2.new.self (open_ops c.args.bracket) (spell (reading u)) (close_ops c.args.bracket) c.write_str-2.result
-    (wrote_sign c.args.sheet.now c.write_str.new.self (open_ops c.args.bracket) c.open.result.now (Ok tt) c.open.ensures c.in_ok-write_str.ensures)
+    (wrote_sign c.args.sheet.now c.write_str.new.self (open_ops c.args.bracket) c.open.result.now (Ok tt) c.open.ensures c.in_ok-write_str.ensures.put)
     (c.in_ok-write_meta.ensures u h)
-    (wrote_sign c.write_meta.new.sheet c.write_str-2.new.self (close_ops c.args.bracket) c.close.result.now _ c.close.ensures c.write_str-2.ensures)
+    (wrote_sign c.write_meta.new.sheet c.write_str-2.new.self (close_ops c.args.bracket) c.close.result.now _ c.close.ensures c.write_str-2.ensures.put)
 
 pub write_meta-unwrap-requires : goal.write_meta-unwrap-requires
 write_meta-unwrap-requires t c =
@@ -90,7 +90,7 @@ write_meta-returns-in-CustomUsage t c =
     λ u h.
     let o = opened _ u c.split_last.ensures.cases c.unwrap.ensures c.in-CustomUsage.is h in
     wrote_tree c.args.sheet.now c.doc.new.self u _ c.doc.result o.shape
-    (wrote_as c.args.sheet.now _ _ _ _ (doc_as c.args.book.now.notes c.store.result.now c.in-CustomUsage.note c.from.result (sym c.store.ensures.value) (sym c.from.ensures)) c.doc.ensures)
+    (wrote_as c.args.sheet.now _ _ _ _ (doc_as c.args.book.now.notes c.store.result.now c.in-CustomUsage.note c.from.result (sym c.store.ensures.value) (sym c.from.ensures)) c.doc.ensures.wrote)
 
 pub write_meta-returns-in-And : goal.write_meta-returns-in-And
 write_meta-returns-in-And t c =
@@ -131,7 +131,7 @@ write_meta-returns-in_ok-write_meta-in-Many t c =
     wrote_tree c.args.sheet.now c.write_str.new.self u _ c.write_str.result o.shape
     (wrote_as c.args.sheet.now _ _ (spell (reading (inside u)) ++ element_ops R.dots) _ (spell-concat (reading (inside u)) (R.one R.dots R.end))
     (wrote_then c.args.sheet.now c.write_meta.new.sheet c.write_str.new.self (spell (reading (inside u))) (element_ops R.dots) c.write_str.result (c.in_ok-write_meta-in-Many.ensures (inside u) o.body)
-    (wrote_sign c.write_meta.new.sheet c.write_str.new.self (element_ops R.dots) _ _ refl c.write_str.ensures)))
+    (wrote_sign c.write_meta.new.sheet c.write_str.new.self (element_ops R.dots) _ _ refl c.write_str.ensures.put)))
 
 pub write_meta-returns-in_err-write_dashes-in-Strict : goal.write_meta-returns-in_err-write_dashes-in-Strict
 write_meta-returns-in_err-write_dashes-in-Strict t c =
@@ -183,7 +183,7 @@ write_row-returns-in_err-write_str t c =
     let e = element_of c.args.join in
     wrote_as c.args.sheet.now c.write_str.new.self _ (spell (joined e q.front_trees) ++ (element_ops e ++ spell (reading q.last_tree))) c.from_residual-in_err-write_str.result (q.behind e (sym c.is_empty.ensures ∙ c.if-not-is_empty.true))
     (stopped_second c.args.sheet.now c.write_row.new.sheet c.write_str.new.self (spell (joined e q.front_trees)) (element_ops e) (spell (reading q.last_tree)) c.from_residual-in_err-write_str.result c.from_residual-in_err-write_str.ensures.0 (c.in_ok-write_row.ensures q.front_trees q.front_is)
-    (wrote_sign c.write_row.new.sheet c.write_str.new.self (element_ops e) c.text.result.now (Err _) c.text.ensures c.in_err-write_str.ensures))
+    (wrote_sign c.write_row.new.sheet c.write_str.new.self (element_ops e) c.text.result.now (Err _) c.text.ensures c.in_err-write_str.ensures.put))
 
 pub write_row-returns : goal.write_row-returns
 write_row-returns t c =
@@ -197,7 +197,7 @@ write_row-returns t c =
           wrote_as c.args.sheet.now c.write_meta.new.sheet _ (spell (joined e q.front_trees) ++ (element_ops e ++ spell (reading q.last_tree))) c.write_meta.result (q.behind e (sym c.is_empty.ensures ∙ w.if-not-is_empty.true))
           (wrote_three c.args.sheet.now w.write_row.new.sheet w.write_str.new.self c.write_meta.new.sheet (spell (joined e q.front_trees)) (element_ops e) (spell (reading q.last_tree)) c.write_meta.result
           (w.in_ok-write_row.ensures q.front_trees q.front_is)
-          (wrote_sign w.write_row.new.sheet w.write_str.new.self (element_ops e) w.text.result.now (Ok tt) w.text.ensures w.in_ok-write_str.ensures)
+          (wrote_sign w.write_row.new.sheet w.write_str.new.self (element_ops e) w.text.result.now (Ok tt) w.text.ensures w.in_ok-write_str.ensures.put)
           (after w.write_str.new.self w.sheet-is))
       | write_row-else-not-is_empty w ↦
           wrote_as c.args.sheet.now c.write_meta.new.sheet _ (spell (reading q.last_tree)) c.write_meta.result (q.alone e (sym c.is_empty.ensures ∙ w.if-not-is_empty.false)) (after c.args.sheet.now w.sheet-is)
