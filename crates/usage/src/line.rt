@@ -5,6 +5,7 @@ ghost use Rattle.terms.specs.declared.text.Token.TheVariants.{BlockStart};
 ghost use Rattle.rules.specs.Tree.{Meta};
 ghost use Rattle.rules.specs.Reading.{reading};
 ghost use Rattle.rules.specs.Content.{tok, line_ops, fits};
+ghost use Rattle.buffer.specs.Contents.{IsSound};
 ghost use Rattle.usage.specs.Standing.{IsTree};
 ghost use Rattle.usage.specs.Left.{Anew};
 
@@ -20,6 +21,7 @@ pub(crate) fn write_line(book: &Book, tree: &[Normal], sheet: &mut Sheet) -> Res
     ensures line { (t : Meta) → IsTree book.now tree.now t
         → Anew sheet.old (line_ops (reading t)) sheet.new result }
     ensures bound { OnOk result (fits sheet.new.limits sheet.new.content ≡ true) }
+    ensures sound { OnOk result (IsSound sheet.new) }
 {
     begin(sheet)?;
     write_meta(book, tree, sheet)?;

@@ -1,8 +1,10 @@
 // The usage line of a root of a book.
 ghost use Rattle.std.specs.Prelude.{◌≡◌, OnOk};
+ghost use Rattle.rules.specs.Sound.{Sound};
 ghost use Rattle.rules.specs.Reading.{reading_of};
 ghost use Rattle.rules.specs.Content.{blank, line};
 ghost use Rattle.rules.specs.Rejection.{reject, sheet as sheet_layer};
+ghost use Rattle.buffer.specs.Contents.{IsSound};
 ghost use Rattle.meta.specs.Rejections.{answer_of, by_rule, rejection_of};
 ghost use Rattle.usage.specs.Calls.{usage_rule};
 ghost use Rattle.usage.specs.Left.{left_by};
@@ -29,6 +31,9 @@ pub fn usage(
     ensures law { OnOk result (Lossless book.now root sheet.new.content) }
     ensures same { (sheet.new.limits ≡ sheet.old.limits) × (bench.new.places ≡ bench.old.places) }
     ensures memory { bench.new.capacity ≡ bench.old.capacity }
+    ensures sound { Sound book.now }
+    ensures written { OnOk result (IsSound sheet.new) }
+    ensures sheet { IsSound sheet.old → IsSound sheet.new }
 {
     normalise(book, root, true, bench)?;
     // By a match: with `map_err` the closure holds the sheet, and the check does not prove what it leaves there.
@@ -43,6 +48,7 @@ fn refuse(root: usize, sheet: &mut Sheet) -> Rejection
     ensures value { rejection_of result ≡ reject 32 sheet_layer root }
     ensures after { sheet.new.content ≡ blank }
     ensures same { sheet.new.limits ≡ sheet.old.limits }
+    ensures sound { IsSound sheet.new }
 {
     sheet.clear();
     Rejection::of(Fault::Long, root)
