@@ -62,10 +62,6 @@ fn agrees(marks: &[[u8; MARK_SIZE]], text_len: usize) -> bool
     requires { length marks.now ≤ MOST_MARKS }
     ensures { result ≡ agreeing text_len (marks_in marks.now) }
 {
-    // Without a mark no block opens, so the stack of a walk need not be made.
-    if marks.is_empty() {
-        return text_len == 0;
-    }
     let mut walk = Walk {
         open: ArrayVec::new(),
         ended: true,
@@ -82,6 +78,18 @@ fn agrees(marks: &[[u8; MARK_SIZE]], text_len: usize) -> bool
     walk.ended && walk.left == 0
 }
 
+// The same: without a mark no block opens, and the stack of a walk need not be made.
+fn match_text(marks: &[[u8; MARK_SIZE]], text_len: usize) -> bool
+    requires { length marks.now ≤ MOST_MARKS }
+    ensures { result ≡ agreeing text_len (marks_in marks.now) }
+{
+    if marks.is_empty() {
+        text_len == 0
+    } else {
+        agrees(marks, text_len)
+    }
+}
+
 fn is_text(text: &[u8]) -> bool
     ensures { result ≡ list_all text_byte text.now }
 {
@@ -96,5 +104,5 @@ pub fn is_lawful(marks: &[u8], text: &[u8]) -> bool
     if !rest.is_empty() || marks.len() > MOST_MARKS || text.len() > MOST_TEXT {
         return false;
     }
-    is_text(text) && agrees(marks, text.len())
+    is_text(text) && match_text(marks, text.len())
 }

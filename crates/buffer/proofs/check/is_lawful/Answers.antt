@@ -26,7 +26,7 @@ returns-then-is_text c =
     let whole : length m % 4 ≡ 0 = grind (arith, nat_tests) in
     let read : marks_in c.as_chunks.result.0.now ≡ marks_of m = ap marks_in c.as_chunks.ensures.front ∙ marks_in-fours m whole in
     let passes : list_all text_byte t ≡ true = cc in
-    c.agrees.ensures ∙ ap (λ (o : Option (List Mark)). agreeing (length t) o) read
+    c.match_text.ensures ∙ ap (λ (o : Option (List Mark)). agreeing (length t) o) read
     ∙ sym (ap (λ (u : Bool). u && agreeing (length t) (marks_of m)) passes) ∙ lawful_few m t (omega arith) whole (omega arith)
 
 pub returns-else-is_text : goal.returns-else-is_text
