@@ -11,7 +11,8 @@ use terms::text::Block;
 impl Sheet {
     // A note of a store, as it is, in a block of its own; one that is not there is empty.
     pub fn doc(&mut self, store: &Store, number: usize) -> Result<(), Full>
-        ensures wrote { Wrote self.old (C.doc (unwrap_or (slice_get store.now number) no_note)) self.new result }
+        ensures wrote { Wrote self.old (C.doc (unwrap_or (slice_get store.now number) no_note))
+            self.new result }
         ensures sound { IsSound self.new }
     {
         self.block_start(Block::InlineBlock)?;

@@ -22,7 +22,8 @@ impl Sheet {
     }
 
     fn enclosed(&mut self, m: &[u8]) -> Result<(), Full>
-        ensures wrote { Wrote self.old (C.str S.Metavar (codes "<" ++ (m.now ++ codes ">")) ∷ []) self.new result }
+        ensures wrote { Wrote self.old (C.str S.Metavar (codes "<" ++ (m.now ++ codes ">")) ∷ [])
+            self.new result }
         ensures sound { IsSound self.new }
     {
         self.write_str(b"<", Style::Metavar)?;

@@ -98,7 +98,8 @@ impl Sheet {
     // Writes tokens and bytes as they are.
     pub(crate) fn raw(&mut self, tokens: &[Token], bytes: &[u8]) -> Result<(), Full>
         requires { sizes tokens.now ≡ length bytes.now }
-        ensures put { Put self.old (raw (record { tokens = tokens.now; bytes = bytes.now })) self.new result }
+        ensures put { Put self.old (raw (record { tokens = tokens.now; bytes = bytes.now }))
+            self.new result }
         ensures sound { IsSound self.new }
     {
         if tokens.len() > self.max_tokens - self.tokens.len() {
