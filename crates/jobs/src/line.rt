@@ -1,5 +1,6 @@
 // The usage line of the last record of a book.
 ghost use Rattle.std.specs.Prelude.{◌≡◌, IfOk, IfSome};
+ghost use Rattle.buffer.specs.Contents.{IsSound};
 ghost use Rattle.jobs.specs.declared.line.LineError.TheVariants.{Refused, NoMemory};
 ghost use Rattle.jobs.specs.Jobs.{line_job, seen};
 ghost use Rattle.jobs.specs.Printed.{shown_answer};
@@ -45,6 +46,7 @@ pub fn usage_line(
     text: &[u8],
 ) -> Result<Sheet, LineError>
     ensures made { IfSome (seen result) (λ x. x ≡ line_job marks.now text.now records.now) }
+    ensures sound { IfOk result (λ sheet. IsSound sheet) }
 {
     let mut book = Book::new(heap, Book::MOST, marks, text)?;
     let mut bench = Bench::new(heap, Bench::MOST)?;

@@ -18,6 +18,7 @@ returns-in_err-usage c =
           c.in_ok-book.ensures.value c.in_ok-bench.ensures.1 c.in_ok-sheet.ensures.made.1
           (line_refused bench limits (filled book (records_in c.args.records.now)) c.fill.new.book c.len.result c.saturating_sub-root.result e
           (accepted _ _ _ c.in_ok-fill.ensures.value) c.fill.ensures.after c.len.ensures.value c.saturating_sub-root.ensures (refused _ e _ c.in_err-usage.ensures.value));
+      sound = tt;
     }
 
 pub returns : goal.returns
@@ -30,4 +31,5 @@ returns c =
           c.in_ok-book.ensures.value c.in_ok-bench.ensures.1 c.in_ok-sheet.ensures.made.1
           (line-written bench limits (filled book (records_in c.args.records.now)) c.fill.new.book c.len.result c.saturating_sub-root.result c.usage.new.sheet.content
           (accepted _ _ _ c.in_ok-fill.ensures.value) c.fill.ensures.after c.len.ensures.value c.saturating_sub-root.ensures (accepted _ _ _ c.in_ok-usage.ensures.value) c.in_ok-usage.ensures.after);
+      sound = c.in_ok-usage.ensures.written;
     }
