@@ -72,6 +72,7 @@ impl Model for Bench {
       nodes = b.nodes.items;
       places = b.places;
       capacity = vec_capacity b.nodes;
+      list = b.nodes;
     } };
 
     ghost invariant = { λ b. min b.places most ≤ vec_capacity b.nodes };
