@@ -1,10 +1,11 @@
 // The walk over a book's nodes that puts their normal form on a bench.
 ghost use Rattle.std.specs.Prelude.{◌≡◌, ◌*◌, ◌<◌, ◌≤◌, min, length};
+ghost use Rattle.rules.specs.Plain.{Plain};
 ghost use Rattle.rules.specs.Tree.{tree_at};
 ghost use Rattle.rules.specs.Weight.{weight};
 ghost use Rattle.meta.specs.Decoded.{AllBelow};
-ghost use Rattle.normal.specs.Held.{held, Room};
-ghost use Rattle.normal.specs.Rows.{row_at, tree_of};
+ghost use Rattle.normal.specs.Held.{held, Room, Grows, IsClosed};
+ghost use Rattle.normal.specs.Rows.{row_at, tree_of, ends, closed, most_closed};
 ghost use Rattle.normal.specs.Walks.{Walks};
 ghost use Rattle.normal.specs.Calls.{normal_entries};
 ghost use Rattle.normal.specs.Places.{most};
@@ -131,7 +132,25 @@ impl<'a> Walk<'a> {
             }
             seen |= form.is_command();
         }
-        bench.close(row, start, kept);
-        row.ends(mark, run)
+        close_row(bench, row, start, kept, mark, run)
     }
+}
+
+// Closes a row with `kept` children, which stand from `start` on, and answers the mark that it comes back with: it
+// began with `mark`, and `run` is the running mark behind its children.
+fn close_row(
+    bench: &mut Bench,
+    row: Row,
+    start: usize,
+    kept: u16,
+    mark: StrictNorm,
+    run: StrictNorm,
+) -> StrictNorm
+    requires { Room bench.old (most_closed row) }
+    ensures tree { (p : Plain) → IsClosed p bench.old bench.new start kept (closed row) }
+    ensures room { Grows bench.old bench.new (most_closed row) }
+    ensures mark { result ≡ ends row mark run }
+{
+    bench.close(row, start, kept);
+    row.ends(mark, run)
 }

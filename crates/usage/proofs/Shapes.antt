@@ -1,10 +1,10 @@
 -- From the top of a tree to its shape.
-use Rattle.std.proofs.Common.{◌≡◌, ℕ, ◌+◌, ◌-◌, ◌<◌, ◌≤◌, true, false, eqb, Bor, List, [], ◌∷◌, ◌++◌, length, take, drop, Some, Option, sym, refl, ap, ◌∙◌, append_assoc, arith, length-append}
+use Rattle.std.proofs.Common.{◌≡◌, ℕ, ◌+◌, ◌-◌, ◌<◌, ◌≤◌, true, false, eqb, Bor, List, [], ◌∷◌, ◌++◌, length, take, drop, Some, Option, sym, refl, ap, ◌∙◌, append_assoc, arith, length-append, length-drop}
 use Rattle.std.proofs.lemmas.Bool.{eqb-true, eqb-false}
-use Rattle.std.proofs.lemmas.List.{map-append, take_at, drop_at, same_from_push}
+use Rattle.std.proofs.lemmas.List.{map-append, take_at, drop_at, same_from_push, take_all, take-append-drop, length-take-le}
 use Rattle.std.proofs.lemmas.Option.{MatchOption-at_some}
 use Rattle.std.specs.Prelude.{MatchOption}
-use Rattle.std.specs.List.{IsLastAndRest}
+use Rattle.std.specs.List.{IsLastAndRest, slice_range}
 use Rattle.rules.specs.Plain.{Plain}
 use Rattle.rules.specs.Tree.{Meta, Metas, inside}
 use Rattle.rules.specs.Reading.{Element, reading, joined}
@@ -184,6 +184,7 @@ pub record Split (p : Plain) (row front last : List Normal) (ts : Metas) : Type 
   pub last_is : IsTree p last last_tree
   pub front_is : IsRow p front front_trees
   pub smaller : length front < length row
+  pub last_smaller : eqb (length front) 0 ≡ false → length last < length row
   pub alone : (e : Element) → eqb (length front) 0 ≡ true → spell (joined e ts) ≡ spell (reading last_tree)
   pub behind : (e : Element) → eqb (length front) 0 ≡ false → spell (joined e ts) ≡ spell (joined e front_trees) ++ (element_ops e ++ spell (reading last_tree))
 
@@ -245,6 +246,18 @@ split {p} {row} {front} {last} {size} rest top ts cut apart told long is =
       last_is = half.tree;
       front_is = half.row;
       smaller = omega (arith, sizes.0, sizes.1);
+      last_smaller = λ some. (let n = ap length apart in let k = length-append front last in omega (arith, eqb-false (length front) 0 some));
       alone = λ e none. spelled_one e ts q (let n = row-none p front q.front half.row (eqb-true (length front) 0 none) in let m = q.count in omega arith);
       behind = λ e some. spelled_more e ts q (let h : 0 < length front = omega (arith, eqb-false (length front) 0 some) in let n = row-some p front q.front half.row h in let m = q.count in omega arith);
     }
+
+-- the same of a row whose front is taken by the size of its last tree
+pub split_before : {p : Plain} {row front : List Normal} {size : ℕ} (rest : List Normal) (top : Normal) (ts : Metas) → row ≡ rest ++ top ∷ [] → size ≡ top.size
+    → front ≡ take (length row - size) row → IsRow p row ts → Split p row front (slice_range row (length front) (length row)) ts
+split_before {p} {row} {front} {size} rest top ts cut told before is =
+    let long : length front ≡ length row - size = ap length before ∙ length-take-le (length row - size) row (omega arith) in
+    let last : slice_range row (length front) (length row) ≡ drop (length front) row =
+    take_all (length row - length front) (drop (length front) row) (omega (arith, length-drop {A = Normal})) in
+    let seam : front ++ drop (length front) row ≡ row =
+    ap (λ (n : ℕ). front ++ drop n row) long ∙ ap (λ (xs : List Normal). xs ++ drop (length row - size) row) before ∙ take-append-drop (length row - size) row in
+    split rest top ts cut (sym (ap (λ (xs : List Normal). front ++ xs) last ∙ seam)) told long is

@@ -1,6 +1,6 @@
 // How a normal form is written, from its nodes. Book and sheet are passed beside each other: of a struct that
 // borrows both, each method would have to promise besides that it leaves the same book and sheet in it.
-ghost use Rattle.std.specs.Prelude.{◌++◌};
+ghost use Rattle.std.specs.Prelude.{◌≡◌, ◌-◌, ◌≤◌, ◌++◌, length, take};
 ghost use Rattle.rules.specs.Tree.{Meta, Metas};
 ghost use Rattle.rules.specs.Reading.{reading, joined};
 ghost use Rattle.rules.specs.Content.{spell};
@@ -71,10 +71,19 @@ fn write_row(book: &Book, row: &[Normal], join: Join, sheet: &mut Sheet) -> Resu
     let Some((top, _)) = row.split_last() else {
         return Ok(());
     };
-    let (front, last) = row.split_at(row.len() - usize::from(top.size));
+    let front = before_last(row, usize::from(top.size));
+    let last = &row[front.len()..];
     if !front.is_empty() {
         write_row(book, front, join, sheet)?;
         sheet.write_str(join.text(), Style::Text)?;
     }
     write_meta(book, last, sheet)
+}
+
+// What stands in a row before its last tree, which has so many nodes.
+fn before_last(row: &[Normal], size: usize) -> &[Normal]
+    requires { size ≤ length row.now }
+    ensures { result.now ≡ take (length row.now - size) row.now }
+{
+    &row[..row.len() - size]
 }

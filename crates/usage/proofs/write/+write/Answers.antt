@@ -1,4 +1,4 @@
-use Rattle.std.proofs.Common.{◌≡◌, List, ◌++◌, Ok, Err, sym, refl, ap, ◌∙◌, subst, arith, rules}
+use Rattle.std.proofs.Common.{◌≡◌, List, ◌++◌, Ok, Err, sym, refl, ap, ◌∙◌, subst, arith, rules, length-drop}
 use Rattle.std.proofs.lemmas.List.{append-nil}
 use Rattle.rules.specs.Tree.{Meta, inside}
 use Rattle.rules.specs.Reading.{reading, joined, item_reading}
@@ -8,10 +8,11 @@ use Rattle.buffer.specs.Contents.{SheetState}
 use Rattle.buffer.specs.Contents.{Wrote}
 use Rattle.meta.specs.Items.{item_of}
 use Rattle.normal.specs.declared.bench.Form.TheVariants as F
+use Rattle.normal.specs.declared.bench.Normal.{Normal}
 use Rattle.usage.specs.Signs.{element_of, open_ops, close_ops}
 use Rattle.usage.proofs.Spelled.{spell-concat}
 use Rattle.usage.proofs.Rows.{joined-none}
-use Rattle.usage.proofs.Shapes.{opened, row_of, split, tree-some, fits_row, row-none}
+use Rattle.usage.proofs.Shapes.{opened, row_of, split_before, tree-some, fits_row, row-none}
 use Rattle.usage.proofs.Composed.{wrote_then, wrote_stop, wrote_as, wrote_sign, wrote_tree, wrote_three, stopped_second, doc_as}
 use Rattle.usage.proofs.write.+write.Goals as goal
 use Rattle.usage.proofs.write.+write.Goals.{write_row-then-not-is_empty+in_ok-write_row+in_ok-write_str, write_row-else-not-is_empty}
@@ -153,25 +154,25 @@ write_row-returns-in_default t c =
     let none = row-none c.args.book.now c.args.row.now ts h c.in_default.ensures.cases in
     (refl, ap (λ (ops : List Op). applies c.args.sheet.now.content ops) (sym (joined-none (element_of c.args.join) ts none)))
 
-pub write_row-overflow_sub-row : goal.write_row-overflow_sub-row
-write_row-overflow_sub-row t c =
+pub write_row-before_last-front-requires : goal.write_row-before_last-front-requires
+write_row-before_last-front-requires t c =
     let size = fits_row _ _ _ _ c.requires.0 c.in-Some.ensures.cases.0 c.requires.1 in
     omega (arith, c.from.ensures)
 
 pub write_row-write_row-requires : goal.write_row-write_row-requires
 write_row-write_row-requires t c =
-    let q = split _ _ c.requires.0 c.in-Some.ensures.cases.0 c.split_at.ensures.by_index.0 c.from.ensures c.split_at.ensures.front_len c.requires.1 in
-    (omega (arith, c.decreases, q.smaller), (q.front_trees, q.front_is))
+    let q = split_before _ _ c.requires.0 c.in-Some.ensures.cases.0 c.from.ensures c.before_last-front.ensures c.requires.1 in
+    (omega (arith, c.decreases, q.smaller, q.last_smaller (sym c.is_empty.ensures ∙ c.if-not-is_empty.true)), (q.front_trees, q.front_is))
 
 pub write_row-write_meta-requires : goal.write_row-write_meta-requires
 write_row-write_meta-requires t c =
-    let q = split _ _ c.requires.0 c.in-Some.ensures.cases.0 c.split_at.ensures.by_index.0 c.from.ensures c.split_at.ensures.front_len c.requires.1 in
-    (omega (arith, c.decreases, c.split_at.ensures.back_len), (q.last_tree, q.last_is))
+    let q = split_before _ _ c.requires.0 c.in-Some.ensures.cases.0 c.from.ensures c.before_last-front.ensures c.requires.1 in
+    (omega (arith, c.decreases, length-drop {A = Normal}), (q.last_tree, q.last_is))
 
 pub write_row-returns-in_err-write_row : goal.write_row-returns-in_err-write_row
 write_row-returns-in_err-write_row t c =
     λ ts h.
-    let q = split _ _ ts c.in-Some.ensures.cases.0 c.split_at.ensures.by_index.0 c.from.ensures c.split_at.ensures.front_len h in
+    let q = split_before _ _ ts c.in-Some.ensures.cases.0 c.from.ensures c.before_last-front.ensures h in
     let e = element_of c.args.join in
     wrote_as c.args.sheet.now c.write_row.new.sheet _ (spell (joined e q.front_trees) ++ (element_ops e ++ spell (reading q.last_tree))) c.from_residual.result (q.behind e (sym c.is_empty.ensures ∙ c.if-not-is_empty.true))
     (wrote_stop c.args.sheet.now c.write_row.new.sheet (spell (joined e q.front_trees)) (element_ops e ++ spell (reading q.last_tree)) c.from_residual.result c.from_residual.ensures.0 (c.in_err-write_row.ensures q.front_trees q.front_is))
@@ -179,7 +180,7 @@ write_row-returns-in_err-write_row t c =
 pub write_row-returns-in_err-write_str : goal.write_row-returns-in_err-write_str
 write_row-returns-in_err-write_str t c =
     λ ts h.
-    let q = split _ _ ts c.in-Some.ensures.cases.0 c.split_at.ensures.by_index.0 c.from.ensures c.split_at.ensures.front_len h in
+    let q = split_before _ _ ts c.in-Some.ensures.cases.0 c.from.ensures c.before_last-front.ensures h in
     let e = element_of c.args.join in
     wrote_as c.args.sheet.now c.write_str.new.self _ (spell (joined e q.front_trees) ++ (element_ops e ++ spell (reading q.last_tree))) c.from_residual-in_err-write_str.result (q.behind e (sym c.is_empty.ensures ∙ c.if-not-is_empty.true))
     (stopped_second c.args.sheet.now c.write_row.new.sheet c.write_str.new.self (spell (joined e q.front_trees)) (element_ops e) (spell (reading q.last_tree)) c.from_residual-in_err-write_str.result c.from_residual-in_err-write_str.ensures.0 (c.in_ok-write_row.ensures q.front_trees q.front_is)
@@ -188,7 +189,7 @@ write_row-returns-in_err-write_str t c =
 pub write_row-returns : goal.write_row-returns
 write_row-returns t c =
     λ ts h.
-    let q = split _ _ ts c.in-Some.ensures.cases.0 c.split_at.ensures.by_index.0 c.from.ensures c.split_at.ensures.front_len h in
+    let q = split_before _ _ ts c.in-Some.ensures.cases.0 c.from.ensures c.before_last-front.ensures h in
     let e = element_of c.args.join in
     let after : (s : SheetState) → c.if-not-is_empty.sheet ≡ s → Wrote s (spell (reading q.last_tree)) c.write_meta.new.sheet c.write_meta.result
     = λ s is. subst (λ (s : SheetState). Wrote s (spell (reading q.last_tree)) c.write_meta.new.sheet c.write_meta.result) is (c.write_meta.ensures q.last_tree q.last_is) in

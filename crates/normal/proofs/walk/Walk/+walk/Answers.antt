@@ -83,9 +83,9 @@ row-returns t c =
     let all = reached_end p _ _ _ _ _ (ends row entry run) c.loop-child.invariant.row (ap (λ (us : Metas). rest row us usage entry run c.loop-child.seen) e ∙ rest-none row usage entry run c.loop-child.seen) in
     let n = nf_row row ts usage entry in
     record {
-      nodes = c.close.ensures.tree p bs (rest row ts usage entry entry false).kept all.0 l all.1 ∙ ap (λ (d : Done). bs ++ post d.tree) (sym n);
-      mark = c.ends.ensures ∙ all.2 ∙ ap (λ (d : Done). d.mark) (sym n);
-      within = omega (arith, w, weight_row row ts, two_closed row, c.loop-child.invariant.within, c.close.ensures.room.within);
-      places = c.close.ensures.room.places ∙ c.loop-child.invariant.places;
-      capacity = c.close.ensures.room.capacity ∙ c.loop-child.invariant.capacity;
+      nodes = c.close_row.ensures.tree p bs (rest row ts usage entry entry false).kept all.0 l all.1 ∙ ap (λ (d : Done). bs ++ post d.tree) (sym n);
+      mark = c.close_row.ensures.mark ∙ all.2 ∙ ap (λ (d : Done). d.mark) (sym n);
+      within = omega (arith, w, weight_row row ts, two_closed row, c.loop-child.invariant.within, c.close_row.ensures.room.within);
+      places = c.close_row.ensures.room.places ∙ c.loop-child.invariant.places;
+      capacity = c.close_row.ensures.room.capacity ∙ c.loop-child.invariant.capacity;
     }
