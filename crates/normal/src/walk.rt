@@ -137,7 +137,8 @@ impl<'a> Walk<'a> {
 }
 
 // Closes a row with `kept` children, which stand from `start` on, and answers the mark that it comes back with: it
-// began with `mark`, and `run` is the running mark behind its children.
+// began with `mark`, and `run` is the running mark behind its children. Apart from `row`, so that the check proves
+// each way out of it without a hand-written answer.
 fn close_row(
     bench: &mut Bench,
     row: Row,

@@ -80,7 +80,7 @@ fn write_row(book: &Book, row: &[Normal], join: Join, sheet: &mut Sheet) -> Resu
     write_meta(book, last, sheet)
 }
 
-// What stands in a row before its last tree, which has so many nodes.
+// What stands in a row before its last tree, which has `size` nodes.
 fn before_last(row: &[Normal], size: usize) -> &[Normal]
     requires { size ≤ length row.now }
     ensures { result.now ≡ take (length row.now - size) row.now }

@@ -159,6 +159,7 @@ write_row-before_last-front-requires t c =
     let size = fits_row _ _ _ _ c.requires.0 c.in-Some.ensures.cases.0 c.requires.1 in
     omega (arith, c.from.ensures)
 
+-- either part is smaller than the row, so that the measure does not tell which of them is written first
 pub write_row-write_row-requires : goal.write_row-write_row-requires
 write_row-write_row-requires t c =
     let q = split_before _ _ c.requires.0 c.in-Some.ensures.cases.0 c.from.ensures c.before_last-front.ensures c.requires.1 in
