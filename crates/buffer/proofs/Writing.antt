@@ -1,9 +1,11 @@
 -- The laws of writes, one behind the other: what they make of a content, and that what does not fit never fits with more behind it.
 use Rattle.std.proofs.Common.{◌≡◌, ℕ, ◌+◌, ◌<◌, ◌≤◌, min, false, leb, ◌⊎◌, List, [], ◌∷◌, ◌++◌, length, refl, inl, inr, ⊎_elim, append_assoc, arith, length-append}
+use Rattle.std.proofs.lemmas.List.{append-nil}
 use Rattle.std.proofs.lemmas.Bool.{leb-false, lt-leb, and_left, and_right, and_cases}
 use Rattle.terms.specs.declared.text.Style.{Style}
 use Rattle.terms.specs.declared.text.Token.{Token}
 use Rattle.rules.specs.Notes.{Note}
+use Rattle.rules.specs.Tree.{no_note}
 use Rattle.rules.specs.Content.{Content, Limits, Op, tok, str, raw, extend, apply, applies, fits}
 use Rattle.buffer.specs.Contents.{Over}
 use Rattle.buffer.proofs.Growth.{extend_more, extend_joins}
@@ -71,6 +73,11 @@ over_second l c st x y b h = over-longer l c st (x ∷ y ∷ []) b h
 -- the same of a byte and a text behind it, written apart
 pub over_inner : (l : Limits) (c : Content) (st : Style) (x : ℕ) (a b : List ℕ) → Over l (apply (apply c (str st (x ∷ []))) (str st a)) → Over l (apply c (str st (x ∷ (a ++ b))))
 over_inner l c st x a b h = over-longer l c st (x ∷ a) b (rw apply_joins at h)
+
+-- a note with nothing in it leaves what stands there
+pub raw_nothing : (c : Content) → c ≡ apply c (raw no_note)
+unfolding apply
+raw_nothing c = simp append-nil
 
 -- what the primitive writes refuse does not fit
 pub tok_over : (l : Limits) (c : Content) (t : Token) → l.tokens ≤ length c.tokens → Over l (apply c (tok t))
